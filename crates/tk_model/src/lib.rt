@@ -1,0 +1,20 @@
+//! Plain data of the database, and the hashes of keys.
+#![tactic(auto)]
+
+mod bytes;
+mod error;
+mod hash;
+mod list;
+mod record;
+
+pub use bytes::Bytes;
+pub use error::{NoMemory, OpenError, Unopened};
+pub use hash::{bucket, fnv32, fnv32_from, fnv64, mix, shard};
+pub use list::ListOf;
+pub use record::{
+    Action, Bound, BytesList, Change, ChangeList, Entry, EntryList, FaultList, Group, GroupList,
+    Order, Pair, PairList, ShardOf, Touch, TouchList, Way,
+};
+
+#[cfg(test)]
+mod tests;
