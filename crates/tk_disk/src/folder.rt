@@ -1,0 +1,59 @@
+ghost use Rattle.std.specs.Prelude.{◌≡◌, ◌≢◌, ◌≤◌, ℕ, List, [], Bool, true, false, IsSome, IfOk, IfSome, IfNone, OnOk, OnErr, OnSome, IsErrOf, Some, None};
+ghost use Rattle.std.specs.declared.option.Option.{Option};
+ghost use Rattle.tk_disk.specs.Disk.{HasCause};
+ghost use Rattle.tk_disk.specs.Folder.{or_empty, SameBut, HasFolderCause};
+
+use crate::{Disk, DiskError};
+
+/// Disks by their names. A disk is taken out, used, and given back under its name.
+pub trait Folder {
+    type D: Disk + Send;
+
+    /// The folder tells what its files hold.
+    ghost tells: { Self → Bool };
+
+    /// What the file at a name holds, where there is one.
+    ghost file: { Self → List ℕ → Option (List ℕ) };
+
+    /// The disk of this name is out.
+    ghost is_out: { Self → List ℕ → Bool };
+
+    /// How often a call has failed.
+    ghost fault_count: { Self → ℕ };
+
+    /// The count of faults of the disk last given back under a name, 0 where there was none.
+    ghost disk_faults: { Self → List ℕ → ℕ };
+
+    fn faults(&self) -> u64
+        ensures { result ≡ fault_count self.now };
+
+    /// The disk of a file. An absent file gives none, or with `create` an empty disk.
+    fn take(&mut self, name: &str, create: bool) -> Result<Option<Self::D>, DiskError>
+        requires home { is_out self.old name.now ≡ false }
+        ensures absent { IfOk result (λ o. IfNone o ((create ≡ false) × (tells self.old ≡ true → file self.old name.now ≡ None))) }
+        ensures there { IfOk result (λ o. OnSome o (create ≡ false → tells self.old ≡ true → IsSome (file self.old name.now))) }
+        ensures image { IfOk result (λ o. IfSome o (λ d. tells self.old ≡ true → Self.D.image d ≡ Some (or_empty (file self.old name.now)))) }
+        ensures count { IfOk result (λ o. IfSome o (λ d. Self.D.fault_count d ≡ disk_faults self.old name.now)) }
+        ensures out { IfOk result (λ o. OnSome o (is_out self.new name.now ≡ true)) }
+        ensures none_out { IfOk result (λ o. IfNone o (is_out self.new name.now ≡ false)) }
+        ensures err_out { OnErr result (is_out self.new name.now ≡ false) }
+        ensures others_out { SameBut name.now (is_out self.old) (is_out self.new) }
+        ensures others { SameBut name.now (file self.old) (file self.new) }
+        ensures none_same { IfOk result (λ o. IfNone o (file self.new name.now ≡ file self.old name.now)) }
+        ensures err_same { OnErr result (file self.new name.now ≡ file self.old name.now) }
+        ensures counts { (m : List ℕ) → disk_faults self.new m ≡ disk_faults self.old m }
+        ensures tells { tells self.new ≡ tells self.old }
+        ensures cause { HasFolderCause (fault_count self.old) (fault_count self.new) result };
+
+    /// Puts a disk back under its name, also where it answers a fault.
+    fn give(&mut self, name: &str, disk: Self::D) -> Result<(), DiskError>
+        requires out { is_out self.old name.now ≡ true }
+        ensures here { tells self.old ≡ true → file self.new name.now ≡ Self.D.image disk }
+        ensures count { disk_faults self.new name.now ≡ Self.D.fault_count disk }
+        ensures home { is_out self.new name.now ≡ false }
+        ensures others_out { SameBut name.now (is_out self.old) (is_out self.new) }
+        ensures others { SameBut name.now (file self.old) (file self.new) }
+        ensures others_count { SameBut name.now (disk_faults self.old) (disk_faults self.new) }
+        ensures tells { tells self.new ≡ tells self.old }
+        ensures cause { HasCause (fault_count self.old) (fault_count self.new) result };
+}
