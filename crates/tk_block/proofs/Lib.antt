@@ -1,0 +1,4 @@
+pub mod Cells
+pub mod Checks
+pub mod Heads
+pub mod Shifts

@@ -1,0 +1,77 @@
+-- The text of blocks.
+use Rattle.std.specs.Prelude.{ℕ, ◌+◌, ◌*◌, ◌-◌, ◌/◌, ◌^◌, ◌<◌, ◌≤◌, max, List, [], ◌∷◌, ◌++◌, length, Bool, true, false, replicate}
+use Rattle.std.specs.Int.{w16, w32, w64, to_be_bytes}
+use Rattle.tk_block.specs.Text.{checked, head_text}
+use Rattle.tk_model.specs.declared.record.Change.{Change}
+use Rattle.tk_model.specs.declared.record.Change.TheVariants.{Put, Drop, Clear}
+use Rattle.tk_block.specs.declared.block.Body.{Body}
+
+abbrev pub flag : Bool → ℕ
+flag true = 1
+flag false = 0
+
+-- kind, flag, lengths and number
+unfoldable pub numbers_text : Body → List ℕ
+numbers_text b = b.kind ∷ flag b.last ∷ to_be_bytes w16 (length b.key) ++ to_be_bytes w32 (length b.value) ++ to_be_bytes w64 b.number
+
+-- a body as far as its check
+abbrev pub body_front : Body → List ℕ
+body_front b = numbers_text b ++ b.key ++ b.value
+
+-- the body of a block at a place
+abbrev pub body_text : (b : Body) (place : ℕ) → List ℕ
+body_text b place = checked (body_front b) place
+
+-- the bytes of a block without padding
+abbrev pub room_of : Body → ℕ
+room_of b = 44 + length b.key + length b.value
+
+-- the least extent that fits: a multiple of 8, at least 48
+abbrev pub extent_for : ℕ → ℕ
+extent_for room = max 48 ((room + 7) / 8 * 8)
+
+abbrev pub extent_of : Body → ℕ
+extent_of b = extent_for (room_of b)
+
+-- head, link, body and padding
+unfoldable pub block_text : (b : Body) (place link : ℕ) → List ℕ
+block_text b place link =
+    head_text (extent_of b) place ++ to_be_bytes w64 link ++ body_text b place ++ replicate (extent_of b - room_of b) 0
+
+-- key and value are within the limits of a block
+pub record IsSmall (key value : List ℕ) : Type 0 where
+  pub key_fits : length key < 2 ^ 16
+  pub value_fits : length value ≤ 33554431
+
+abbrev pub kind_of : Change → ℕ
+kind_of (Put pair) = 1
+kind_of (Drop key) = 2
+kind_of Clear = 4
+
+abbrev pub key_of : Change → List ℕ
+key_of (Put pair) = pair.key
+key_of (Drop key) = key
+key_of Clear = []
+
+abbrev pub value_of : Change → List ℕ
+value_of (Put pair) = pair.value
+value_of (Drop key) = []
+value_of Clear = []
+
+-- the body of a change
+abbrev pub body_of : (number : ℕ) → Change → (last : Bool) → Body
+body_of number change last = record { kind = kind_of change; last = last; key = key_of change; value = value_of change; number = number }
+
+abbrev pub is_nil : {A : Type 0} → List A → Bool
+is_nil [] = true
+is_nil (x ∷ xs) = false
+
+-- the bodies of a group: all with its number, the last with the flag
+abbrev pub group_bodies : (number : ℕ) → List Change → List Body
+group_bodies number [] = []
+group_bodies number (c ∷ cs) = body_of number c (is_nil cs) ∷ group_bodies number cs
+
+-- each change is within the limits of a block
+abbrev pub AllSmall : List Change → Type 0
+AllSmall [] = Unit {0}
+AllSmall (c ∷ cs) = IsSmall (key_of c) (value_of c) × AllSmall cs

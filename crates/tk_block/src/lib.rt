@@ -1,0 +1,17 @@
+//! The text of headers and blocks.
+#![tactic(auto)]
+
+mod block;
+mod closing;
+mod group;
+mod head;
+mod number;
+
+pub use block::{Block, Body, extent_of, write_block};
+pub use closing::{Closing, write_closing};
+pub use group::{LinkList, write_group};
+pub use head::{StaticHead, base_of, read_head, read_static, write_head, write_static};
+pub use number::{u16_at, u32_at, u64_at};
+
+#[cfg(test)]
+mod tests;
