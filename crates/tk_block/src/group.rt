@@ -1,5 +1,5 @@
 ghost use Rattle.std.specs.Prelude.{◌≡◌, ◌≤◌, ◌<◌, ◌^◌, ◌+◌, ◌++◌, length, OnOk};
-ghost use Rattle.tk_block.specs.Blocks.{AllSmall, group_bodies};
+ghost use Rattle.tk_block.specs.Blocks.{AllSmall, group_bodies, kind_of, key_of, value_of};
 ghost use Rattle.tk_block.specs.Layout.{group_text, end_of};
 
 use crate::block::{Block, extent_of, write_block};
@@ -9,7 +9,13 @@ use tk_model::{Bytes, Change, Group, ListOf, NoMemory};
 pub type LinkList = ListOf<u64>;
 
 /// The block of a change.
-fn block_of(change: &Change, number: u64, last: bool) -> Block<'_> {
+fn block_of(change: &Change, number: u64, last: bool) -> Block<'_>
+    ensures kind { result.kind ≡ kind_of change.now }
+    ensures key { result.key.now ≡ key_of change.now }
+    ensures value { result.value.now ≡ value_of change.now }
+    ensures number { result.number ≡ number }
+    ensures last { result.last ≡ last }
+{
     let (kind, key, value) = match change {
         Change::Put(pair) => (1, pair.key.as_slice(), pair.value.as_slice()),
         Change::Drop(key) => (2, key.as_slice(), &[] as &[u8]),
