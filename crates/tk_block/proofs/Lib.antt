@@ -1,4 +1,5 @@
 pub mod Cells
 pub mod Checks
+pub mod Groups
 pub mod Heads
 pub mod Shifts

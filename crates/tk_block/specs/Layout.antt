@@ -1,5 +1,5 @@
 -- Where blocks stand in a file, how they are linked, and the text of a whole file.
-use Rattle.std.specs.Prelude.{ℕ, zero, suc, ◌+◌, ◌*◌, ◌^◌, List, [], ◌∷◌, ◌++◌, length, drop, flat_map, Bool, if◌then◌else◌, ◌==◌, ◌&&◌, ◌||◌}
+use Rattle.std.specs.Prelude.{ℕ, zero, suc, ◌+◌, ◌^◌, List, [], ◌∷◌, ◌++◌, drop, flat_map, Bool, if◌then◌else◌, ◌==◌, ◌&&◌, ◌||◌}
 use Rattle.std.specs.Int.{w64, to_be_bytes}
 use Rattle.tk_model.specs.Hashes.{mix_of, bucket_of}
 use Rattle.tk_model.specs.declared.record.Group.{Group}

@@ -2,8 +2,8 @@ ghost use Rattle.std.specs.Prelude.{◌≡◌, ◌≤◌, ◌<◌, ◌^◌, ◌+
 ghost use Rattle.tk_block.specs.Text.{head_text, head_at, is_extent, static_front, static_text, is_static, static_at, base_of};
 
 use crate::block::check;
-use tk_model::fnv32;
 use crate::number::u64_at;
+use tk_model::fnv32;
 
 /// The head of a block at a place.
 pub fn write_head(extent: u64, place: u64) -> [u8; 16]
