@@ -1,0 +1,2 @@
+pub mod ChainsSteps
+pub mod Layouts

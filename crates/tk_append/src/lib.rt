@@ -1,0 +1,5 @@
+//! Files of blocks on a disk.
+#![tactic(auto)]
+
+mod chains;
+mod pieces;
