@@ -11,7 +11,7 @@ use Rattle.tk_block.specs.Blocks.{extent_of, extent_for, body_of, is_nil}
 use Rattle.tk_block.specs.Layout.{Placed, laid, end_of, newest, renewed, link_of, links_of, bucket_in}
 use Rattle.tk_append.specs.Fresh.{fresh_bodies}
 use Rattle.tk_append.specs.Chains.{HeadsAre}
-use Rattle.tk_append.proofs.Layouts.{newest-append, laid-append, end_of-append, links_of-append, fresh-take, length-fresh_bodies}
+use Rattle.tk_append.proofs.Layouts.{newest-append, laid-append, end_of-append, links_of-append, bodies-more, laid-more, length-fresh_bodies}
 
 -- heads, links and end of the first i blocks
 pub record Chained (p base : ℕ) (bodies : List Body) (i : ℕ) (heads links : List ℕ) (place : ℕ) : Type 0 where
@@ -41,18 +41,6 @@ newest_set p b slot place pair last heads before is below was = elim (cases_eq (
   ]
 
 module _ (p base : ℕ) (each : Bool) (pairs : List Pair) (i : ℕ) (pair : Pair) (within : i < length pairs) (is : pair ≡ get_or pairs i pair) where
-  bodies_more : take (i + 1) (fresh_bodies each pairs) ≡ take i (fresh_bodies each pairs) ++ body_of 0 (Put pair) (each || is_nil (drop (suc i) pairs)) ∷ []
-  bodies_more =
-      ap (λ (k : ℕ). take k (fresh_bodies each pairs)) (add-one i) ∙ fresh-take each pairs i pair within
-      ∙ ap (λ (q : Pair). take i (fresh_bodies each pairs) ++ body_of 0 (Put q) (each || is_nil (drop (suc i) pairs)) ∷ []) (sym is)
-
-  -- the blocks so far and one more
-  blocks_more : laid base (take (i + 1) (fresh_bodies each pairs))
-      ≡ laid base (take i (fresh_bodies each pairs)) ++ record { place = end_of base (take i (fresh_bodies each pairs)); body = body_of 0 (Put pair) (each || is_nil (drop (suc i) pairs)) } ∷ []
-  blocks_more =
-      ap (λ (l : List Body). laid base l) (bodies_more)
-      ∙ laid-append base (take i (fresh_bodies each pairs)) (body_of 0 (Put pair) (each || is_nil (drop (suc i) pairs)) ∷ [])
-
   pub chain_step : (heads links : List ℕ) (place slot extent : ℕ) → slot ≡ bucket_in p pair.key → slot < 2 ^ p → extent ≡ extent_for (44 + length pair.key + length pair.value)
       → Chained p base (fresh_bodies each pairs) i heads links place
       → Chained p base (fresh_bodies each pairs) (i + 1) (set heads slot place) (links ++ get_or heads slot 0 ∷ []) (place + extent)
@@ -68,18 +56,14 @@ module _ (p base : ℕ) (each : Bool) (pairs : List Pair) (i : ℕ) (pair : Pair
             newest_set p b slot place pair last heads before here (omega (arith, below, so_far.heads_are.whole)) (so_far.heads_are.newest_each b within_p)
             ∙ ap (λ (n : ℕ). renewed p b (newest p b 0 before) (record { place = n; body = body })) so_far.place_is
             ∙ sym (newest-append p b 0 before (record { place = end_of base front; body = body } ∷ []))
-            ∙ sym (ap (λ (l : List Placed). newest p b 0 l) blocks_more);
+            ∙ sym (ap (λ (l : List Placed). newest p b 0 l) (laid-more base each pairs i pair within is));
         };
         links_are =
           ap (λ (n : ℕ). links ++ n ∷ []) (so_far.heads_are.newest_each slot below ∙ ap (λ (k : ℕ). newest p k 0 before) here)
           ∙ ap (λ (l : List ℕ). l ++ newest p (bucket_in p pair.key) 0 before ∷ []) so_far.links_are
           ∙ sym (links_of-append p [] before (record { place = end_of base front; body = body } ∷ []))
-          ∙ sym (ap (λ (l : List Placed). links_of p [] l) blocks_more);
+          ∙ sym (ap (λ (l : List Placed). links_of p [] l) (laid-more base each pairs i pair within is));
         place_is =
           ap (λ (n : ℕ). place + n) long ∙ ap (λ (n : ℕ). n + extent_of body) so_far.place_is
-          ∙ sym (end_of-append base front (body ∷ [])) ∙ sym (ap (λ (l : List Body). end_of base l) bodies_more);
+          ∙ sym (end_of-append base front (body ∷ [])) ∙ sym (ap (λ (l : List Body). end_of base l) (bodies-more each pairs i pair within is));
       }
-
--- all blocks
-pub taken_all : (each : Bool) (pairs : List Pair) (i : ℕ) → length pairs ≤ i → take i (fresh_bodies each pairs) ≡ fresh_bodies each pairs
-taken_all each pairs i past = take_all i (fresh_bodies each pairs) (omega (arith, length-fresh_bodies each pairs))

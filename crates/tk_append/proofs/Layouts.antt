@@ -1,11 +1,17 @@
 -- Blocks one after another, their links and their text.
-use Rattle.std.proofs.Common.{◌≡◌, ℕ, zero, suc, ◌+◌, ◌<◌, ◌≤◌, Bool, true, false, cond, List, [], ◌∷◌, ◌++◌, length, get_or, take, drop, refl, sym, ◌∙◌, ap, subst, arith, append_assoc}
+use Rattle.std.proofs.Common.{◌≡◌, ℕ, zero, suc, ◌+◌, ◌<◌, ◌≤◌, Bool, true, false, cond, eqb, List, [], ◌∷◌, ◌++◌, length, get_or, take, drop, refl, sym, ◌∙◌, ap, inl, inr, add-one, arith, append_assoc, length-append}
+use Rattle.std.specs.Prelude.{◌-◌, replicate}
+use Rattle.std.specs.Int.{w32, w64, to_be_bytes}
+use Rattle.std.proofs.lemmas.List.{length-replicate, length-take, take_all, drop_all}
+use Rattle.std.proofs.lemmas.Bool.{eq-eqb, ne_eqb, cases_eq}
+use Rattle.tk_block.specs.Text.{checked, check_number, head_text}
+use Rattle.tk_block.proofs.Heads.{length-head_text}
 use Rattle.std.proofs.lemmas.List.{append-nil}
 use Rattle.tk_model.specs.declared.record.Pair.{Pair}
 use Rattle.tk_model.specs.declared.record.Change.{Change}
 use Rattle.tk_model.specs.declared.record.Change.TheVariants.{Put}
 use Rattle.tk_block.specs.declared.block.Body.{Body}
-use Rattle.tk_block.specs.Blocks.{IsSmall, extent_of, body_of, is_nil, block_text}
+use Rattle.tk_block.specs.Blocks.{IsSmall, extent_of, body_of, is_nil, block_text, numbers_text, body_front, room_of}
 use Rattle.tk_block.specs.Layout.{Placed, laid, end_of, newest, renewed, link_of, links_of, texts, first_or_none}
 use Rattle.tk_append.specs.Fresh.{fresh_bodies, AllPairsSmall}
 use Rattle.std.specs.Prelude.{◌||◌}
@@ -55,6 +61,12 @@ fresh-take each [] i d within = absurd (omega arith)
 fresh-take each (p ∷ ps) zero d within = refl
 fresh-take each (p ∷ ps) (suc i) d within = ap (λ (l : List Body). body_of 0 (Put p) (each || is_nil ps) ∷ l) (fresh-take each ps i d (omega arith))
 
+pub bodies-more : (each : Bool) (pairs : List Pair) (i : ℕ) (pair : Pair) → i < length pairs → pair ≡ get_or pairs i pair
+    → take (i + 1) (fresh_bodies each pairs) ≡ take i (fresh_bodies each pairs) ++ body_of 0 (Put pair) (each || is_nil (drop (suc i) pairs)) ∷ []
+bodies-more each pairs i pair within is =
+    ap (λ (k : ℕ). take k (fresh_bodies each pairs)) (add-one i) ∙ fresh-take each pairs i pair within
+    ∙ ap (λ (q : Pair). take i (fresh_bodies each pairs) ++ body_of 0 (Put q) (each || is_nil (drop (suc i) pairs)) ∷ []) (sym is)
+
 pub length-fresh_bodies : (each : Bool) (pairs : List Pair) → length (fresh_bodies each pairs) ≡ length pairs
 length-fresh_bodies each [] = refl
 length-fresh_bodies each (p ∷ ps) = ap suc (length-fresh_bodies each ps)
@@ -70,3 +82,75 @@ end_of-take place zero [] = omega arith
 end_of-take place zero (b ∷ bs) = omega (arith, end_of-take (place + extent_of b) zero bs)
 end_of-take place (suc i) [] = omega arith
 end_of-take place (suc i) (b ∷ bs) = end_of-take (place + extent_of b) i bs
+
+-- a block is as long as its extent
+pub length-block_text : (b : Body) (place link : ℕ) → length (block_text b place link) ≡ extent_of b
+unfolding block_text checked numbers_text
+length-block_text b place link =
+    let head = head_text (extent_of b) place in
+    let link_bytes = to_be_bytes w64 link in
+    let front = body_front b in
+    let check_bytes = to_be_bytes w32 (check_number front place) in
+    let pad : List ℕ = replicate (extent_of b - room_of b) 0 in
+    omega (arith, length-append ((head ++ link_bytes) ++ (front ++ check_bytes)) pad, length-append (head ++ link_bytes) (front ++ check_bytes), length-append head link_bytes,
+      length-append front check_bytes, length-append (numbers_text b ++ b.key) b.value, length-append (numbers_text b) b.key, length-replicate {A = ℕ} (extent_of b - room_of b) 0, length-head_text (extent_of b) place)
+
+is_nil-drop : (pairs : List Pair) (k : ℕ) → k < length pairs → is_nil (drop k pairs) ≡ false
+is_nil-drop [] k within = absurd (omega arith)
+is_nil-drop (p ∷ ps) zero within = refl
+is_nil-drop (p ∷ ps) (suc k) within = is_nil-drop ps k (omega arith)
+
+-- the flag of the block at i
+pub flag_at : (pairs : List Pair) (i : ℕ) → i < length pairs → is_nil (drop (suc i) pairs) ≡ eqb (i + 1) (length pairs)
+flag_at pairs i within = elim (cases_eq (i + 1) (length pairs)) [
+    | inl e ↦ ap is_nil (drop_all (suc i) pairs (omega (arith, e))) ∙ sym (eq-eqb _ _ e)
+    | inr ne ↦ is_nil-drop pairs (suc i) (omega (arith, ne)) ∙ sym (ne_eqb _ _ ne)
+  ]
+
+-- a text with a block more
+pub length-grown : (new old : List ℕ) (b : Body) (place link : ℕ) → new ≡ old ++ block_text b place link → length new ≡ length old + extent_of b
+length-grown new old b place link is = omega (arith, ap length is, length-append old (block_text b place link), length-block_text b place link)
+
+-- the end behind one record more
+pub end_of-more : (place : ℕ) (each : Bool) (pairs : List Pair) (i : ℕ) (pair : Pair) (last : Bool) → i < length pairs → pair ≡ get_or pairs i pair
+    → end_of place (take (i + 1) (fresh_bodies each pairs)) ≡ end_of place (take i (fresh_bodies each pairs)) + extent_of (body_of 0 (Put pair) last)
+end_of-more place each pairs i pair last within is =
+    ap (λ (l : List Body). end_of place l) (bodies-more each pairs i pair within is)
+    ∙ end_of-append place (take i (fresh_bodies each pairs)) (body_of 0 (Put pair) (each || is_nil (drop (suc i) pairs)) ∷ [])
+
+-- the blocks with one record more
+pub laid-more : (base : ℕ) (each : Bool) (pairs : List Pair) (i : ℕ) (pair : Pair) → i < length pairs → pair ≡ get_or pairs i pair
+    → laid base (take (i + 1) (fresh_bodies each pairs))
+      ≡ laid base (take i (fresh_bodies each pairs)) ++ record { place = end_of base (take i (fresh_bodies each pairs)); body = body_of 0 (Put pair) (each || is_nil (drop (suc i) pairs)) } ∷ []
+laid-more base each pairs i pair within is =
+    ap (λ (l : List Body). laid base l) (bodies-more each pairs i pair within is)
+    ∙ laid-append base (take i (fresh_bodies each pairs)) (body_of 0 (Put pair) (each || is_nil (drop (suc i) pairs)) ∷ [])
+
+first-drop : (links : List ℕ) (i : ℕ) → first_or_none (drop i links) ≡ get_or links i 0
+first-drop [] i = ap first_or_none (drop-nil i)
+first-drop (x ∷ xs) zero = refl
+first-drop (x ∷ xs) (suc i) = first-drop xs i
+
+-- the text with one record more
+pub texts-more : (base : ℕ) (each : Bool) (pairs : List Pair) (links : List ℕ) (i : ℕ) (pair : Pair) (last : Bool) (place link : ℕ) (text : List ℕ)
+    → i < length pairs → pair ≡ get_or pairs i pair → last ≡ (each || eqb (i + 1) (length pairs)) → place ≡ end_of base (take i (fresh_bodies each pairs)) → link ≡ get_or links i 0
+    → (text ++ texts (laid base (take i (fresh_bodies each pairs))) links) ++ block_text (body_of 0 (Put pair) last) place link
+      ≡ text ++ texts (laid base (take (i + 1) (fresh_bodies each pairs))) links
+texts-more base each pairs links i pair last place link text within is flagged placed linked =
+    let before : List Placed = laid base (take i (fresh_bodies each pairs)) in
+    let count : length before ≡ i = length-laid base (take i (fresh_bodies each pairs)) ∙ omega (arith, length-take i (fresh_bodies each pairs), length-fresh_bodies each pairs) in
+    let tail : block_text (body_of 0 (Put pair) last) place link
+        ≡ texts (record { place = end_of base (take i (fresh_bodies each pairs)); body = body_of 0 (Put pair) (each || is_nil (drop (suc i) pairs)) } ∷ []) (drop (length before) links) =
+      ap (λ (b : Bool). block_text (body_of 0 (Put pair) b) place link) (flagged ∙ ap (λ (b : Bool). each || b) (sym (flag_at pairs i within)))
+      ∙ ap (λ (n : ℕ). block_text (body_of 0 (Put pair) (each || is_nil (drop (suc i) pairs))) n link) placed
+      ∙ ap (λ (n : ℕ). block_text (body_of 0 (Put pair) (each || is_nil (drop (suc i) pairs))) (end_of base (take i (fresh_bodies each pairs))) n)
+          (linked ∙ sym (first-drop links i) ∙ ap (λ (k : ℕ). first_or_none (drop k links)) (sym count))
+      ∙ sym (append-nil _) in
+    append_assoc text (texts before links) (block_text (body_of 0 (Put pair) last) place link)
+    ∙ ap (λ (l : List ℕ). text ++ (texts before links ++ l)) tail
+    ∙ ap (λ (l : List ℕ). text ++ l) (sym (texts-append before _ links))
+    ∙ ap (λ (l : List Placed). text ++ texts l links) (sym (laid-more base each pairs i pair within is))
+
+-- all records
+pub taken_all : (each : Bool) (pairs : List Pair) (i : ℕ) → length pairs ≤ i → take i (fresh_bodies each pairs) ≡ fresh_bodies each pairs
+taken_all each pairs i past = take_all i (fresh_bodies each pairs) (omega (arith, length-fresh_bodies each pairs))

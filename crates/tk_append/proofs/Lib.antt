@@ -1,2 +1,3 @@
 pub mod ChainsSteps
 pub mod Layouts
+pub mod PiecesSteps

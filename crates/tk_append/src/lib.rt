@@ -1,5 +1,6 @@
 //! Files of blocks on a disk.
 #![tactic(auto)]
 
+mod blocks;
 mod chains;
 mod pieces;

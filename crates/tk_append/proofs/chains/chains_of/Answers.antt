@@ -10,8 +10,8 @@ use Rattle.tk_block.specs.Layout.{Placed, laid, links_of, end_of, bucket_in}
 use Rattle.tk_block.specs.declared.block.Body.{Body}
 use Rattle.tk_append.specs.Fresh.{fresh_bodies}
 use Rattle.tk_append.specs.Chains.{HeadsAre}
-use Rattle.tk_append.proofs.Layouts.{small_at, end_of-take}
-use Rattle.tk_append.proofs.ChainsSteps.{Chained, chain_step, taken_all}
+use Rattle.tk_append.proofs.Layouts.{small_at, end_of-take, taken_all}
+use Rattle.tk_append.proofs.ChainsSteps.{Chained, chain_step}
 use Rattle.tk_append.proofs.chains.chains_of.Goals as goal
 
 pub extent_of-place-requires-clause-key : goal.extent_of-place-requires-clause-key
