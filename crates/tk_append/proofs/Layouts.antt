@@ -154,3 +154,13 @@ texts-more base each pairs links i pair last place link text within is flagged p
 -- all records
 pub taken_all : (each : Bool) (pairs : List Pair) (i : ℕ) → length pairs ≤ i → take i (fresh_bodies each pairs) ≡ fresh_bodies each pairs
 taken_all each pairs i past = take_all i (fresh_bodies each pairs) (omega (arith, length-fresh_bodies each pairs))
+
+-- where blocks end does not hang on their flags
+pub end_of-each : (place : ℕ) (each other : Bool) (pairs : List Pair) → end_of place (fresh_bodies each pairs) ≡ end_of place (fresh_bodies other pairs)
+end_of-each place each other [] = refl
+end_of-each place each other (p ∷ ps) = end_of-each (place + extent_of (body_of 0 (Put p) true)) each other ps
+
+-- no end is before the base
+pub end_of-least : (place : ℕ) (bodies : List Body) → place ≤ end_of place bodies
+end_of-least place [] = omega arith
+end_of-least place (b ∷ bs) = omega (arith, end_of-least (place + extent_of b) bs)

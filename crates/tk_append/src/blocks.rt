@@ -1,4 +1,5 @@
 ghost use Rattle.std.specs.Prelude.{◌≡◌, ◌+◌, ◌*◌, ◌<◌, ◌≤◌, ◌++◌, ◌^◌, ◌==◌, ◌||◌, List, ℕ, [], length, IfSome, OnOk};
+ghost use Rattle.std.specs.Option.{is_some};
 ghost use Rattle.tk_disk.specs.Folder.{HasFolderCause};
 ghost use Rattle.tk_model.specs.declared.record.Change.TheVariants as Change;
 ghost use Rattle.tk_block.specs.Blocks.{IsSmall, body_of, block_text, extent_of};
@@ -23,6 +24,7 @@ pub(crate) fn put_words<D: Disk>(
     ensures text { (text : List ℕ) → Holds (D.image disk.old) at.old waiting.old text → OnOk result (Holds (D.image disk.new) at.new waiting.new (text ++ words_text words.now)) }
     ensures here { OnOk result (IfSome (D.image disk.new) (λ f. length f ≡ at.new)) }
     ensures end { OnOk result (at.new + length waiting.new ≡ at.old + length waiting.old + 8 * length words.now) }
+    ensures told { is_some (D.image disk.new) ≡ is_some (D.image disk.old) }
     ensures cause { HasFolderCause (D.fault_count disk.old) (D.fault_count disk.new) result }
 {
     for word in words {
@@ -48,6 +50,7 @@ fn put_record<D: Disk>(
         → OnOk result (Holds (D.image disk.new) at.new waiting.new (text ++ block_text (body_of 0 (Change.Put pair.now) last) (at.old + length waiting.old) link)) }
     ensures here { OnOk result (IfSome (D.image disk.new) (λ f. length f ≡ at.new)) }
     ensures end { OnOk result (at.new + length waiting.new ≡ at.old + length waiting.old + extent_of (body_of 0 (Change.Put pair.now) last)) }
+    ensures told { is_some (D.image disk.new) ≡ is_some (D.image disk.old) }
     ensures cause { HasFolderCause (D.fault_count disk.old) (D.fault_count disk.new) result }
 {
     let place = *at + waiting.len() as u64;
@@ -88,6 +91,7 @@ pub(crate) fn put_records<D: Disk>(
         → OnOk result (Holds (D.image disk.new) at.new waiting.new (text ++ texts (laid (at.old + length waiting.old) (fresh_bodies each pairs.now)) links.now)) }
     ensures here { OnOk result (IfSome (D.image disk.new) (λ f. length f ≡ at.new)) }
     ensures end { OnOk result (at.new + length waiting.new ≡ end_of (at.old + length waiting.old) (fresh_bodies each pairs.now)) }
+    ensures told { is_some (D.image disk.new) ≡ is_some (D.image disk.old) }
     ensures cause { HasFolderCause (D.fault_count disk.old) (D.fault_count disk.new) result }
 {
     for (i, pair) in pairs.iter().enumerate() {

@@ -3,4 +3,7 @@
 
 mod blocks;
 mod chains;
+mod fresh;
 mod pieces;
+
+pub use fresh::write_fresh;

@@ -33,6 +33,7 @@ loop-i-preserved g c =
           (c.in_ok-put_record.ensures.text (text ++ texts (laid start (take c.loop-i.i bodies)) c.args.links.now) (c.loop-i.invariant.text text h));
       here = c.in_ok-put_record.ensures.here;
       end = omega (arith, c.in_ok-put_record.ensures.end, c.loop-i.invariant.end, more);
+      told = c.in_ok-put_record.ensures.told ∙ c.loop-i.invariant.told;
       count = c.in_ok-put_record.ensures.cause.kept ∙ c.loop-i.invariant.count;
     }
 

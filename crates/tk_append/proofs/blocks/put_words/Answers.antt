@@ -17,5 +17,6 @@ loop-word-preserved g c =
         (holds_more (g.D.Disk.image c.loop-word.disk) c.loop-word.at c.loop-word.waiting bytes (text ++ words_text (take i c.args.words.now)) (c.loop-word.invariant.text text h))));
       here = c.in_ok-flush_piece.ensures.here;
       end = omega (arith, c.in_ok-flush_piece.ensures.end, ap length c.in_ok-extend.ensures.ok, length-append c.loop-word.waiting bytes, eight, c.loop-word.invariant.end);
+      told = c.in_ok-flush_piece.ensures.told ∙ c.loop-word.invariant.told;
       count = c.in_ok-flush_piece.ensures.cause.kept ∙ c.loop-word.invariant.count;
     }
