@@ -2,7 +2,12 @@
 #![tactic(auto)]
 
 mod disk;
+mod file;
 mod folder;
+mod memory;
+mod tape;
 
 pub use disk::{Disk, DiskError};
+pub use file::FileDisk;
 pub use folder::Folder;
+pub use memory::MemDisk;
