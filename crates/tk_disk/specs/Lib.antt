@@ -1,8 +1,10 @@
 pub mod Crash
 pub mod Disk
+pub mod FileDisk
 pub mod Folder
 pub mod MemDisk
 pub mod Memory
 pub mod MemoryLaws
+pub mod Places
 pub mod Replay
 pub mod TapeInside

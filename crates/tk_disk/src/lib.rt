@@ -5,6 +5,7 @@ mod disk;
 mod file;
 mod folder;
 mod memory;
+mod places;
 mod tape;
 
 pub use disk::{Disk, DiskError};
