@@ -3,6 +3,7 @@ pub mod Disk
 pub mod FileDisk
 pub mod Folder
 pub mod MemDisk
+pub mod MemFolder
 pub mod Memory
 pub mod MemoryLaws
 pub mod Places

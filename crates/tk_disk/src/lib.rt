@@ -4,6 +4,7 @@
 mod disk;
 mod file;
 mod folder;
+mod mem_folder;
 mod memory;
 mod places;
 mod tape;
@@ -11,4 +12,5 @@ mod tape;
 pub use disk::{Disk, DiskError};
 pub use file::FileDisk;
 pub use folder::Folder;
+pub use mem_folder::MemFolder;
 pub use memory::MemDisk;

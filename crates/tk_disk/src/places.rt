@@ -1,4 +1,4 @@
-ghost use Rattle.std.specs.Prelude.{◌≡◌, ◌≢◌, ◌<◌, ℕ, List, length, Some, MatchOption, OnOk, OnErr};
+ghost use Rattle.std.specs.Prelude.{◌≡◌, ◌≢◌, ◌<◌, ℕ, List, length, Some, None, IfNone, MatchOption, OnOk, OnErr};
 ghost use Rattle.tk_disk.specs.Folder.{SameBut};
 ghost use Rattle.tk_disk.specs.Places.{held_at, IsNamed, IsAbsent};
 
@@ -15,7 +15,8 @@ pub struct Place<T> {
 
 /// The first place of a name.
 pub fn find<T>(places: &[Place<T>], name: &str) -> Option<usize>
-    ensures { MatchOption result (IsAbsent places.now name.now) (λ i. (i < length places.now) × IsNamed places.now i name.now) }
+    ensures none { IfNone result (held_at places.now name.now ≡ None) }
+    ensures place { MatchOption result (IsAbsent places.now name.now) (λ i. (i < length places.now) × IsNamed places.now i name.now) }
 {
     for (i, place) in places.iter().enumerate() {
         if place.name.as_str() == name {
