@@ -75,3 +75,8 @@ module _ {T : Type 0} where
 
   pub absent-next : (ps : List (Place T)) (i : ℕ) (name : List ℕ) (d : Place T) → i < length ps → IsAbsent (take i ps) name → string_bytes (get_or ps i d).name ≢ name → IsAbsent (take (i + 1) ps) name
   absent-next ps i name d within none ne = let next : suc i ≡ i + 1 = omega arith in subst (λ (k : ℕ). IsAbsent (take k ps) name) next (absent-suc ps i name d within none ne)
+
+  -- a place that was found and read
+  pub found-held : (ps qs : List (Place T)) (i : ℕ) (name : List ℕ) (p : Place T) → qs ≡ ps → IsNamed qs i name → p ≡ get_or ps i p → held_at ps name ≡ Some p.held
+  found-held ps qs i name p same named is =
+      named-held ps i name p (subst (λ (l : List (Place T)). IsNamed l i name) same named) ∙ ap (λ (q : Place T). Some q.held) (sym is)

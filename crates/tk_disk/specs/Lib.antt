@@ -1,4 +1,5 @@
 pub mod Crash
+pub mod DirFolder
 pub mod Disk
 pub mod FileDisk
 pub mod Folder

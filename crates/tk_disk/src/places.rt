@@ -1,4 +1,4 @@
-ghost use Rattle.std.specs.Prelude.{◌≡◌, ◌≢◌, ◌<◌, ℕ, List, length, Some, None, IfNone, MatchOption, OnOk, OnErr};
+ghost use Rattle.std.specs.Prelude.{◌≡◌, ◌≢◌, ◌<◌, ℕ, List, length, Some, None, IsSome, IfNone, MatchOption, OnOk, OnErr};
 ghost use Rattle.tk_disk.specs.Folder.{SameBut};
 ghost use Rattle.tk_disk.specs.Places.{held_at, IsNamed, IsAbsent};
 
@@ -34,6 +34,19 @@ pub fn exchange<T>(places: &mut [Place<T>], i: usize, held: T) -> T
     ensures others { (name : List ℕ) → IsNamed places.old i name → SameBut name (held_at places.old) (held_at places.new) }
 {
     mem::replace(&mut places[i].held, held)
+}
+
+/// Puts another thing under a name that has a place.
+pub fn replace<T>(places: &mut [Place<T>], name: &str, held: T) -> T
+    requires { IsSome (held_at places.old name.now) }
+    ensures old { held_at places.old name.now ≡ Some result }
+    ensures new { held_at places.new name.now ≡ Some held }
+    ensures others { SameBut name.now (held_at places.old) (held_at places.new) }
+{
+    match find(places, name) {
+        Some(i) => exchange(places, i, held),
+        None => unreachable!(),
+    }
 }
 
 /// Makes a place for a new name.
