@@ -1,5 +1,5 @@
 -- What the calls of a folder do.
-use Rattle.std.specs.Prelude.{◌≡◌, ◌≢◌, ℕ, ◌≤◌, List, [], Bool, false, Option, Some, None, Result, Ok, Err, OnOk, IsErrOf}
+use Rattle.std.specs.Prelude.{◌≡◌, ◌≢◌, ℕ, ◌≤◌, List, [], Bool, false, Option, Some, None, Result, OnOk, IsErrOf}
 use Rattle.tk_disk.specs.Disk.{Rose}
 use Rattle.tk_disk.specs.declared.disk.DiskError.{DiskError}
 use Rattle.tk_disk.specs.declared.disk.DiskError.TheVariants.{Fault}
