@@ -1,5 +1,6 @@
 pub mod Cells
 pub mod Checks
+pub mod Grammar
 pub mod Groups
 pub mod Heads
 pub mod Shifts

@@ -5,6 +5,7 @@ use Rattle.tk_block.specs.Text.{checked, head_text}
 use Rattle.tk_model.specs.declared.record.Change.{Change}
 use Rattle.tk_model.specs.declared.record.Change.TheVariants.{Put, Drop, Clear}
 use Rattle.tk_block.specs.declared.block.Body.{Body}
+use Rattle.tk_block.specs.declared.block.Block.{Block}
 
 abbrev pub flag : Bool → ℕ
 flag true = 1
@@ -75,3 +76,6 @@ group_bodies number (c ∷ cs) = body_of number c (is_nil cs) ∷ group_bodies n
 abbrev pub AllSmall : List Change → Type 0
 AllSmall [] = Unit {0}
 AllSmall (c ∷ cs) = IsSmall (key_of c) (value_of c) × AllSmall cs
+
+abbrev pub said : Block → Body
+said b = record { kind = b.kind; last = b.last; key = b.key.now; value = b.value.now; number = b.number }

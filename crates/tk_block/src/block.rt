@@ -1,6 +1,6 @@
 ghost use Rattle.std.specs.Prelude.{◌≡◌, ◌≤◌, ◌<◌, ◌^◌, ◌+◌, ◌-◌, ◌++◌, ℕ, length, OnOk, OnErr};
 ghost use Rattle.tk_block.specs.Text.{check_number};
-ghost use Rattle.tk_block.specs.Blocks.{IsSmall, flag, numbers_text, body_front, body_text, block_text, room_of, extent_for, extent_of};
+ghost use Rattle.tk_block.specs.Blocks.{IsSmall, flag, numbers_text, body_front, body_text, block_text, room_of, extent_for, extent_of, said};
 
 use crate::head::write_head;
 use tk_model::{Bytes, NoMemory, fnv32, fnv32_from};
@@ -52,7 +52,7 @@ fn flag(last: bool) -> u8
 
 fn numbers_of(block: Block<'_>) -> [u8; 16]
     requires { IsSmall block.key.now block.value.now }
-    ensures { result ≡ numbers_text (record { kind = block.entry.kind; last = block.entry.last; key = block.entry.key.now; value = block.entry.value.now; number = block.entry.number }) }
+    ensures { result ≡ numbers_text (said block.entry) }
 {
     let k = (block.key.len() as u16).to_be_bytes();
     let v = (block.value.len() as u32).to_be_bytes();
@@ -66,7 +66,7 @@ fn numbers_of(block: Block<'_>) -> [u8; 16]
 
 fn put_front(block: Block<'_>, out: &mut Bytes) -> Result<(), NoMemory>
     requires { IsSmall block.key.now block.value.now }
-    ensures { OnOk result (out.new ≡ out.old ++ body_front (record { kind = block.entry.kind; last = block.entry.last; key = block.entry.key.now; value = block.entry.value.now; number = block.entry.number })) }
+    ensures { OnOk result (out.new ≡ out.old ++ body_front (said block.entry)) }
 {
     out.extend(&numbers_of(block))?;
     out.extend(block.key)?;
@@ -76,7 +76,7 @@ fn put_front(block: Block<'_>, out: &mut Bytes) -> Result<(), NoMemory>
 #[tactic(auto, unfolding(crate::specs::Text::checked))]
 fn put_body(block: Block<'_>, place: u64, out: &mut Bytes) -> Result<(), NoMemory>
     requires { IsSmall block.key.now block.value.now }
-    ensures { OnOk result (out.new ≡ out.old ++ body_text (record { kind = block.entry.kind; last = block.entry.last; key = block.entry.key.now; value = block.entry.value.now; number = block.entry.number }) place) }
+    ensures { OnOk result (out.new ≡ out.old ++ body_text (said block.entry) place) }
 {
     let start = out.len();
     put_front(block, out)?;
@@ -88,7 +88,7 @@ fn put_body(block: Block<'_>, place: u64, out: &mut Bytes) -> Result<(), NoMemor
 #[tactic(auto, unfolding(crate::specs::Blocks::block_text))]
 pub fn write_block(block: Block<'_>, place: u64, link: u64, out: &mut Bytes) -> Result<(), NoMemory>
     requires { IsSmall block.key.now block.value.now }
-    ensures { OnOk result (out.new ≡ out.old ++ block_text (record { kind = block.entry.kind; last = block.entry.last; key = block.entry.key.now; value = block.entry.value.now; number = block.entry.number }) place link) }
+    ensures { OnOk result (out.new ≡ out.old ++ block_text (said block.entry) place link) }
 {
     let room = 44 + block.key.len() + block.value.len();
     let extent = extent_of(block.key.len(), block.value.len());
