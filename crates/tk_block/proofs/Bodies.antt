@@ -51,15 +51,15 @@ same_tests true b p q = sym (p refl)
 same_tests false true p q = q refl
 same_tests false false p q = refl
 
-two_true : (a b : Bool) → (a && b) ≡ true → (a ≡ true) × (b ≡ true)
+pub two_true : (a b : Bool) → (a && b) ≡ true → (a ≡ true) × (b ≡ true)
 two_true true true h = (refl, refl)
 two_true true false h = absurd (cc)
 two_true false b h = absurd (cc)
 
-key_long : (bytes : List ℕ) → check_in bytes + 4 ≤ length bytes → length (body_in bytes).key ≡ u16_in bytes 2
+pub key_long : (bytes : List ℕ) → check_in bytes + 4 ≤ length bytes → length (body_in bytes).key ≡ u16_in bytes 2
 key_long bytes fits = length-take-le _ _ (omega (arith, length-drop 16 bytes))
 
-value_long : (bytes : List ℕ) → check_in bytes + 4 ≤ length bytes → length (body_in bytes).value ≡ u32_in bytes 4
+pub value_long : (bytes : List ℕ) → check_in bytes + 4 ≤ length bytes → length (body_in bytes).value ≡ u32_in bytes 4
 value_long bytes fits = length-take-le _ _ (omega (arith, length-drop (16 + u16_in bytes 2) bytes))
 
 -- numbers and check tell whether the front is the text of the body whose fields stand there

@@ -104,7 +104,7 @@ unfolding static_text static_front
 static_parts h = (refl, refl, refl, refl, refl)
 
 -- a byte of a front
-byte_in : (at n : ℕ) (bytes text : List ℕ) → at < n → take n bytes ≡ text → slice_index bytes at ≡ slice_index text at
+pub byte_in : (at n : ℕ) (bytes text : List ℕ) → at < n → take n bytes ≡ text → slice_index bytes at ≡ slice_index text at
 byte_in at n bytes text fits spelled = sym (get_or-take n bytes at 0 fits) ∙ ap (λ l. get_or l at 0) spelled
 
 -- the fields that a header spells are those it was made from, the generation modulo 2^64

@@ -1,4 +1,5 @@
 pub mod Bodies
+pub mod BodyGrammar
 pub mod Cells
 pub mod Checks
 pub mod Grammar

@@ -1,6 +1,7 @@
 ghost use Rattle.std.specs.Prelude.{◌≡◌, ◌≤◌, ◌<◌, ◌^◌, ◌+◌, ◌-◌, ◌++◌, ℕ, length, OnOk, OnErr, IfOk, option_map, Some, None, if◌then◌else◌, take, nat_le};
 ghost use Rattle.std.specs.Str.{bytes_eq};
 ghost use Rattle.tk_block.specs.Text.{check_number};
+ghost use Rattle.tk_block.specs.Grammar.{Reads, FitsBody};
 ghost use Rattle.tk_block.specs.Blocks.{IsSmall, flag, numbers_text, body_front, body_text, block_text, room_of, extent_for, extent_of, said, is_nil, is_body, body_at, body_in, check_in};
 
 use crate::head::write_head;
@@ -153,7 +154,8 @@ fn is_spelled(bytes: &[u8], check_at: usize, block: Block<'_>, place: u64) -> bo
 /// The body that the front of bytes at a place spells. Bytes behind it are not looked at.
 #[tactic(auto, unfolding(crate::specs::Blocks::body_at))]
 pub fn body_at(bytes: &[u8], place: u64) -> Option<Block<'_>>
-    ensures { option_map said result ≡ body_at bytes.now place }
+    ensures value { option_map said result ≡ body_at bytes.now place }
+    ensures exact { Reads FitsBody (λ b. body_text b place) (λ bytes. body_at bytes place) }
 {
     let check_at = check_place(bytes)?;
     let block = fields_of(bytes, check_at);
