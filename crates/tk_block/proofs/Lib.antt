@@ -5,4 +5,6 @@ pub mod Checks
 pub mod Grammar
 pub mod Groups
 pub mod Heads
+pub mod Layouts
+pub mod Lengths
 pub mod Shifts
