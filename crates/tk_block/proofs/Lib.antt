@@ -1,5 +1,10 @@
+pub mod Bodies
+pub mod BodyGrammar
 pub mod Cells
 pub mod Checks
+pub mod Grammar
 pub mod Groups
 pub mod Heads
+pub mod Layouts
+pub mod Lengths
 pub mod Shifts

@@ -1,10 +1,13 @@
 -- The text of blocks.
-use Rattle.std.specs.Prelude.{ℕ, ◌+◌, ◌*◌, ◌-◌, ◌/◌, ◌^◌, ◌<◌, ◌≤◌, max, List, [], ◌∷◌, ◌++◌, length, Bool, true, false, replicate}
+use Rattle.std.specs.Prelude.{ℕ, ◌+◌, ◌*◌, ◌-◌, ◌/◌, ◌^◌, ◌<◌, ◌≤◌, max, List, [], ◌∷◌, ◌++◌, length, Bool, true, false, replicate, slice_index, take, drop, Option, Some, None, if◌then◌else◌, ◌&&◌, ◌||◌, ◌==◌, nat_le}
 use Rattle.std.specs.Int.{w16, w32, w64, to_be_bytes}
+use Rattle.std.specs.Str.{bytes_eq}
+use Rattle.tk_block.specs.Number.{u16_in, u32_in, u64_in}
 use Rattle.tk_block.specs.Text.{checked, head_text}
 use Rattle.tk_model.specs.declared.record.Change.{Change}
 use Rattle.tk_model.specs.declared.record.Change.TheVariants.{Put, Drop, Clear}
 use Rattle.tk_block.specs.declared.block.Body.{Body}
+use Rattle.tk_block.specs.declared.block.Block.{Block}
 
 abbrev pub flag : Bool → ℕ
 flag true = 1
@@ -37,6 +40,10 @@ extent_of b = extent_for (room_of b)
 unfoldable pub block_text : (b : Body) (place link : ℕ) → List ℕ
 block_text b place link =
     head_text (extent_of b) place ++ to_be_bytes w64 link ++ body_text b place ++ replicate (extent_of b - room_of b) 0
+
+-- the body that a block says
+abbrev pub said : Block → Body
+said b = record { kind = b.kind; last = b.last; key = b.key.now; value = b.value.now; number = b.number }
 
 -- key and value are within the limits of a block
 pub record IsSmall (key value : List ℕ) : Type 0 where
@@ -75,3 +82,26 @@ group_bodies number (c ∷ cs) = body_of number c (is_nil cs) ∷ group_bodies n
 abbrev pub AllSmall : List Change → Type 0
 AllSmall [] = Unit {0}
 AllSmall (c ∷ cs) = IsSmall (key_of c) (value_of c) × AllSmall cs
+
+-- kinds 1 to 4; only a set has a value, only a set or a remove has a key, and a value is within its limit
+abbrev pub is_body : Body → Bool
+is_body b =
+    nat_le 1 b.kind && nat_le b.kind 4 && nat_le (length b.value) 33554431 && ((b.kind == 1) || is_nil b.value) && (nat_le b.kind 2 || is_nil b.key)
+
+abbrev pub body_in : List ℕ → Body
+body_in bytes = record {
+    kind = slice_index bytes 0;
+    last = slice_index bytes 1 == 1;
+    key = take (u16_in bytes 2) (drop 16 bytes);
+    value = take (u32_in bytes 4) (drop (16 + u16_in bytes 2) bytes);
+    number = u64_in bytes 8
+}
+
+-- where the check stands, by the lengths at the front
+abbrev pub check_in : List ℕ → ℕ
+check_in bytes = 16 + u16_in bytes 2 + u32_in bytes 4
+
+-- the body at the front of bytes that lie at a place, where they spell one
+unfoldable pub body_at : (bytes : List ℕ) (place : ℕ) → Option Body
+body_at bytes place =
+    if nat_le (check_in bytes + 4) (length bytes) && is_body (body_in bytes) && bytes_eq (take (check_in bytes + 4) bytes) (body_text (body_in bytes) place) then Some (body_in bytes) else None

@@ -1,4 +1,5 @@
 pub mod Blocks
+pub mod Grammar
 pub mod Layout
 pub mod Number
 pub mod Text

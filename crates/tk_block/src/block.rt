@@ -1,8 +1,12 @@
-ghost use Rattle.std.specs.Prelude.{◌≡◌, ◌≤◌, ◌<◌, ◌^◌, ◌+◌, ◌-◌, ◌++◌, ℕ, length, OnOk, OnErr};
+ghost use Rattle.std.specs.Prelude.{◌≡◌, ◌≤◌, ◌<◌, ◌^◌, ◌+◌, ◌-◌, ◌++◌, ℕ, length, OnOk, OnErr, IfOk, option_map, Some, None, if◌then◌else◌, take, nat_le};
+ghost use Rattle.std.specs.Str.{bytes_eq};
 ghost use Rattle.tk_block.specs.Text.{check_number};
-ghost use Rattle.tk_block.specs.Blocks.{IsSmall, flag, numbers_text, body_front, body_text, block_text, room_of, extent_for, extent_of};
+ghost use Rattle.tk_block.specs.Grammar.{Reads, FitsBody};
+ghost use Rattle.tk_block.specs.Blocks.{IsSmall, flag, numbers_text, body_front, body_text, block_text, room_of, extent_for, extent_of, said, is_nil, is_body, body_at, body_in, check_in};
 
 use crate::head::write_head;
+use crate::number::{u16_at, u32_at, u64_at};
+use std::alloc::Global;
 use tk_model::{Bytes, NoMemory, fnv32, fnv32_from};
 
 /// What a block's body says. Kinds: 1 set, 2 remove, 3 void, 4 clear.
@@ -15,7 +19,7 @@ pub struct Body {
     pub number: u64,
 }
 
-/// A body that is to be written.
+/// A body whose key and value are borrowed.
 #[derive(Clone, Copy)]
 pub struct Block<'a> {
     pub kind: u8,
@@ -52,7 +56,7 @@ fn flag(last: bool) -> u8
 
 fn numbers_of(block: Block<'_>) -> [u8; 16]
     requires { IsSmall block.key.now block.value.now }
-    ensures { result ≡ numbers_text (record { kind = block.entry.kind; last = block.entry.last; key = block.entry.key.now; value = block.entry.value.now; number = block.entry.number }) }
+    ensures { result ≡ numbers_text (said block.entry) }
 {
     let k = (block.key.len() as u16).to_be_bytes();
     let v = (block.value.len() as u32).to_be_bytes();
@@ -66,7 +70,7 @@ fn numbers_of(block: Block<'_>) -> [u8; 16]
 
 fn put_front(block: Block<'_>, out: &mut Bytes) -> Result<(), NoMemory>
     requires { IsSmall block.key.now block.value.now }
-    ensures { OnOk result (out.new ≡ out.old ++ body_front (record { kind = block.entry.kind; last = block.entry.last; key = block.entry.key.now; value = block.entry.value.now; number = block.entry.number })) }
+    ensures { OnOk result (out.new ≡ out.old ++ body_front (said block.entry)) }
 {
     out.extend(&numbers_of(block))?;
     out.extend(block.key)?;
@@ -76,7 +80,7 @@ fn put_front(block: Block<'_>, out: &mut Bytes) -> Result<(), NoMemory>
 #[tactic(auto, unfolding(crate::specs::Text::checked))]
 fn put_body(block: Block<'_>, place: u64, out: &mut Bytes) -> Result<(), NoMemory>
     requires { IsSmall block.key.now block.value.now }
-    ensures { OnOk result (out.new ≡ out.old ++ body_text (record { kind = block.entry.kind; last = block.entry.last; key = block.entry.key.now; value = block.entry.value.now; number = block.entry.number }) place) }
+    ensures { OnOk result (out.new ≡ out.old ++ body_text (said block.entry) place) }
 {
     let start = out.len();
     put_front(block, out)?;
@@ -88,7 +92,7 @@ fn put_body(block: Block<'_>, place: u64, out: &mut Bytes) -> Result<(), NoMemor
 #[tactic(auto, unfolding(crate::specs::Blocks::block_text))]
 pub fn write_block(block: Block<'_>, place: u64, link: u64, out: &mut Bytes) -> Result<(), NoMemory>
     requires { IsSmall block.key.now block.value.now }
-    ensures { OnOk result (out.new ≡ out.old ++ block_text (record { kind = block.entry.kind; last = block.entry.last; key = block.entry.key.now; value = block.entry.value.now; number = block.entry.number }) place link) }
+    ensures { OnOk result (out.new ≡ out.old ++ block_text (said block.entry) place link) }
 {
     let room = 44 + block.key.len() + block.value.len();
     let extent = extent_of(block.key.len(), block.value.len());
@@ -96,4 +100,86 @@ pub fn write_block(block: Block<'_>, place: u64, link: u64, out: &mut Bytes) -> 
     out.extend(&link.to_be_bytes())?;
     put_body(block, place, out)?;
     out.extend_zeros(extent as usize - room)
+}
+
+fn is_body(block: Block<'_>) -> bool
+    ensures { result ≡ is_body (said block.entry) }
+{
+    1 <= block.kind
+        && block.kind <= 4
+        && block.value.len() <= 33_554_431
+        && (block.kind == 1 || block.value.is_empty())
+        && (block.kind <= 2 || block.key.is_empty())
+}
+
+/// Where the check stands, if the bytes are long enough for the lengths at their front.
+fn check_place(bytes: &[u8]) -> Option<usize>
+    ensures { result ≡ if nat_le (check_in bytes.now + 4) (length bytes.now) then Some (check_in bytes.now) else None }
+{
+    if bytes.len() < 20 {
+        return None;
+    }
+    let place = 16 + u16_at(bytes, 2) as usize + u32_at(bytes, 4) as usize;
+    if place <= bytes.len() - 4 { Some(place) } else { None }
+}
+
+fn fields_of(bytes: &[u8], check_at: usize) -> Block<'_>
+    requires place { check_at ≡ check_in bytes.now }
+    requires long { check_at + 4 ≤ length bytes.now }
+    ensures fields { said result ≡ body_in bytes.now }
+    ensures key { length result.key.now < 2 ^ 16 }
+{
+    let value_at = 16 + u16_at(bytes, 2) as usize;
+    Block {
+        kind: bytes[0],
+        last: bytes[1] == 1,
+        number: u64_at(bytes, 8),
+        key: &bytes[16..value_at],
+        value: &bytes[value_at..check_at],
+    }
+}
+
+fn is_spelled(bytes: &[u8], check_at: usize, block: Block<'_>, place: u64) -> bool
+    requires place { check_at ≡ check_in bytes.now }
+    requires long { check_at + 4 ≤ length bytes.now }
+    requires fields { said block ≡ body_in bytes.now }
+    requires small { IsSmall block.key.now block.value.now }
+    ensures { result ≡ bytes_eq (take (check_in bytes.now + 4) bytes.now) (body_text (body_in bytes.now) place) }
+{
+    let numbers = numbers_of(block);
+    let sum = check(&bytes[..check_at], place).to_be_bytes();
+    &bytes[..16] == numbers.as_slice() && &bytes[check_at..check_at + 4] == sum.as_slice()
+}
+
+/// The body that the front of bytes at a place spells. Bytes behind it are not looked at.
+#[tactic(auto, unfolding(crate::specs::Blocks::body_at))]
+pub fn body_at(bytes: &[u8], place: u64) -> Option<Block<'_>>
+    ensures value { option_map said result ≡ body_at bytes.now place }
+    ensures exact { Reads FitsBody (λ b. body_text b place) (λ bytes. body_at bytes place) }
+{
+    let check_at = check_place(bytes)?;
+    let block = fields_of(bytes, check_at);
+    if is_body(block) && is_spelled(bytes, check_at, block, place) {
+        Some(block)
+    } else {
+        None
+    }
+}
+
+/// As `body_at`, with a key and a value of its own.
+pub fn read_body(alloc: Global, bytes: &[u8], place: u64) -> Result<Option<Body>, NoMemory>
+    ensures { IfOk result (λ b. b ≡ body_at bytes.now place) }
+{
+    let Some(block) = body_at(bytes, place) else {
+        return Ok(None);
+    };
+    let key = Bytes::from_slice(alloc, block.key)?;
+    let value = Bytes::from_slice(alloc, block.value)?;
+    Ok(Some(Body {
+        kind: block.kind,
+        last: block.last,
+        key,
+        value,
+        number: block.number,
+    }))
 }

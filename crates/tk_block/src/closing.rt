@@ -1,6 +1,8 @@
 ghost use Rattle.std.specs.Prelude.{◌≡◌};
-ghost use Rattle.tk_block.specs.Text.{closing_front, closing_text};
+ghost use Rattle.tk_block.specs.Grammar.{Reads, FitsClosing};
+ghost use Rattle.tk_block.specs.Text.{closing_front, closing_text, closing_at};
 
+use crate::number::u64_at;
 use tk_model::fnv32;
 
 /// The part of a header that is written again at each closing. All three are 0 while the file is open.
@@ -34,4 +36,26 @@ pub fn write_closing(closing: &Closing) -> [u8; 32]
     out[..28].copy_from_slice(&front);
     out[28..].copy_from_slice(&check);
     out
+}
+
+/// The closing part that the first 32 bytes spell.
+#[tactic(auto, unfolding(crate::specs::Text::closing_at))]
+pub fn read_closing(bytes: &[u8]) -> Option<Closing>
+    ensures value { result ≡ closing_at bytes.now }
+    ensures exact { Reads FitsClosing closing_text closing_at }
+{
+    if bytes.len() < 32 {
+        return None;
+    }
+    let closing = Closing {
+        size: u64_at(bytes, 0),
+        count: u64_at(bytes, 8),
+        next: u64_at(bytes, 16),
+    };
+    let text = write_closing(&closing);
+    if &bytes[..32] == text.as_slice() {
+        Some(closing)
+    } else {
+        None
+    }
 }

@@ -1,4 +1,5 @@
 ghost use Rattle.std.specs.Prelude.{◌≡◌, ◌≤◌, ◌<◌, ◌^◌, ◌+◌, ◌*◌, ℕ, IsTrue, IfSome, IfNone, take};
+ghost use Rattle.tk_block.specs.Grammar.{Reads, FitsExtent, FitsStatic};
 ghost use Rattle.tk_block.specs.Text.{head_text, head_at, is_extent, static_front, static_text, is_static, static_at, base_of};
 
 use crate::block::check;
@@ -29,7 +30,8 @@ fn is_extent(e: u64) -> bool
 /// The extent at the front of bytes that lie at a place, where they spell a head.
 #[tactic(auto, unfolding(crate::specs::Text::head_at))]
 pub fn read_head(bytes: &[u8], place: u64) -> Option<u64>
-    ensures { result ≡ head_at bytes.now place }
+    ensures value { result ≡ head_at bytes.now place }
+    ensures exact { Reads FitsExtent (λ e. head_text e place) (λ bytes. head_at bytes place) }
 {
     if bytes.len() < 16 {
         return None;
@@ -118,7 +120,8 @@ pub fn write_static(head: &StaticHead) -> [u8; 32]
 /// The header that the first 32 bytes spell.
 #[tactic(auto, unfolding(crate::specs::Text::static_at))]
 pub fn read_static(bytes: &[u8]) -> Option<StaticHead>
-    ensures { result ≡ static_at bytes.now }
+    ensures value { result ≡ static_at bytes.now }
+    ensures exact { Reads FitsStatic static_text static_at }
 {
     if bytes.len() < 32 {
         return None;

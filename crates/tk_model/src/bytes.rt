@@ -1,4 +1,4 @@
-ghost use Rattle.std.specs.Prelude.{◌≡◌, [], ◌∷◌, ◌++◌, ◌<◌, ◌↔◌, length, slice_index, IsTrue, IfOk, OnOk, OnErr, replicate};
+ghost use Rattle.std.specs.Prelude.{◌≡◌, [], ◌∷◌, ◌++◌, ◌+◌, ◌≤◌, ◌<◌, ◌↔◌, length, take, drop, slice_index, IsTrue, IfOk, OnOk, OnErr, replicate};
 
 use crate::NoMemory;
 use std::alloc::Global;
@@ -75,6 +75,14 @@ impl Bytes {
         };
         self.items.resize(len, 0)?;
         Ok(())
+    }
+
+    /// Writes bytes over those that stand from a place on.
+    pub fn write_at(&mut self, at: usize, bytes: &[u8])
+        requires { at + length bytes.now ≤ length self.old }
+        ensures { self.new ≡ take at self.old ++ (bytes.now ++ drop (at + length bytes.now) self.old) }
+    {
+        self.items[at..at + bytes.len()].copy_from_slice(bytes);
     }
 
     /// Takes all bytes away, and keeps the memory.
