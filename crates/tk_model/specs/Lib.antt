@@ -1,1 +1,4 @@
 pub mod Hashes
+pub mod Orders
+pub mod Records
+pub mod Entries

@@ -5,12 +5,14 @@ mod bytes;
 mod error;
 mod hash;
 mod list;
+mod order;
 mod record;
 
 pub use bytes::Bytes;
 pub use error::{NoMemory, OpenError, Unopened};
 pub use hash::{bucket, fnv32, fnv32_from, fnv64, mix, shard};
 pub use list::ListOf;
+pub use order::{before, compare_keys, is_same};
 pub use record::{
     Action, Bound, BytesList, Change, ChangeList, Entry, EntryList, FaultList, Group, GroupList,
     Order, Pair, PairList, ShardOf, Touch, TouchList, Way,
