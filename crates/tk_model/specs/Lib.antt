@@ -2,3 +2,4 @@ pub mod Hashes
 pub mod Orders
 pub mod Records
 pub mod Entries
+pub mod OrderLaws

@@ -4,6 +4,7 @@
 mod bytes;
 mod error;
 mod hash;
+mod law;
 mod list;
 mod order;
 mod record;
@@ -11,6 +12,7 @@ mod record;
 pub use bytes::Bytes;
 pub use error::{NoMemory, OpenError, Unopened};
 pub use hash::{bucket, fnv32, fnv32_from, fnv64, mix, shard};
+pub use law::keys_in_line;
 pub use list::ListOf;
 pub use order::{before, compare_keys, is_same};
 pub use record::{
