@@ -1,3 +1,5 @@
 pub mod Bits
 pub mod Orders
 pub mod KeyOrders
+pub mod PlaceSteps
+pub mod PlainSteps

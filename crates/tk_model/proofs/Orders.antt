@@ -1,5 +1,5 @@
 -- How the loops over keys go on.
-use Rattle.std.proofs.Common.{◌≡◌, ℕ, ◌+◌, ◌-◌, ◌*◌, ◌^◌, ◌<◌, ◌≤◌, Bool, true, false, List, [], ◌∷◌, length, drop, get_or, map, min, ◌⊎◌, inl, inr, length-drop, refl, sym, ap, ◌∙◌, arith, if◌then◌else◌}
+use Rattle.std.proofs.Common.{◌≡◌, ℕ, ◌+◌, ◌-◌, ◌*◌, ◌^◌, ◌<◌, ◌≤◌, Bool, true, false, List, [], ◌∷◌, length, drop, get_or, min, ◌⊎◌, inl, inr, length-drop, refl, sym, ap, ◌∙◌, arith, if◌then◌else◌}
 use Rattle.std.proofs.Math.ListN.{drop_of_length-le}
 use Rattle.std.proofs.Math.Nat.{le-mul_of_pos_right, min-eq_right}
 use Rattle.std.proofs.lemmas.Bool.{cases_lt}
@@ -7,10 +7,9 @@ use Rattle.std.proofs.lemmas.Bool.Decides.{nat_tests}
 use Rattle.std.proofs.lemmas.List.{drop_more}
 use Rattle.std.specs.Char.{digit_value, is_digit, to_ascii_lowercase}
 use Rattle.std.specs.Ordering.{nat_cmp, ordering_then, is_ne}
-use Rattle.std.specs.Cmp.Lexicographic.{slice_cmp}
 use Rattle.std.specs.declared.cmp.Ordering.{Ordering}
 use Rattle.std.specs.declared.cmp.Ordering.TheVariants.{Less, Equal, Greater}
-use Rattle.tk_model.specs.Orders.{number_from, held, magnitude, lowered, bytes_cmp}
+use Rattle.tk_model.specs.Orders.{number_from, held, lowered, bytes_cmp}
 
 -- how two keys compare, their capital letters as small ones
 abbrev pub lowered_cmp : List ℕ → List ℕ → Ordering
@@ -39,11 +38,11 @@ min_below n h below = omega arith
 min_step : (h base digit n : ℕ) → 1 ≤ base → min (min n h * base + digit) h ≡ min (n * base + digit) h
 min_step h base digit n some =
     elim (cases_lt n h) [
-      inl below ↦ rw (min_below n h below) refl
-    | inr above ↦
-        let grown : n ≤ n * base = le-mul_of_pos_right n (omega arith) in
-        let held_grown : h ≤ h * base = le-mul_of_pos_right h (omega arith) in
-        rw (min-eq_right above) (omega arith)
+      | inl below ↦ rw (min_below n h below) refl
+      | inr above ↦
+          let grown : n ≤ n * base = le-mul_of_pos_right n (omega arith) in
+          let held_grown : h ≤ h * base = le-mul_of_pos_right h (omega arith) in
+          rw (min-eq_right above) (omega arith)
     ]
 
 held_twice : (n : ℕ) → held (held n) ≡ held n
@@ -139,6 +138,6 @@ lowered_end a b i found e f =
     ∙ sym (shifted i (length a) (length b) (omega arith) (omega arith))
     ∙ rw (length-drop i a, length-drop i b) refl
     ∙ ends (drop i a) (drop i b) (elim (cases_lt (length a) (length b)) [
-        inl less ↦ inl (drop_of_length-le a (omega arith))
+      | inl less ↦ inl (drop_of_length-le a (omega arith))
       | inr more ↦ inr (drop_of_length-le b (omega arith))
-      ])
+    ])

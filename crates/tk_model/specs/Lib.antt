@@ -3,3 +3,5 @@ pub mod Orders
 pub mod Records
 pub mod Entries
 pub mod OrderLaws
+pub mod Places
+pub mod OrderedRecords

@@ -7,6 +7,8 @@ mod hash;
 mod law;
 mod list;
 mod order;
+mod place;
+mod plain;
 mod record;
 
 pub use bytes::Bytes;
@@ -15,6 +17,7 @@ pub use hash::{bucket, fnv32, fnv32_from, fnv64, mix, shard};
 pub use law::keys_in_line;
 pub use list::ListOf;
 pub use order::{before, compare_keys, is_same};
+pub use plain::PlainMap;
 pub use record::{
     Action, Bound, BytesList, Change, ChangeList, Entry, EntryList, FaultList, Group, GroupList,
     Order, Pair, PairList, ShardOf, Touch, TouchList, Way,

@@ -99,7 +99,11 @@ pub fn compare_keys(order: &Order, a: &[u8], b: &[u8]) -> Ordering
         Order::Decimal => decimal_of(a).cmp(&decimal_of(b)),
         Order::Hex => magnitude_of(a, 16).cmp(&magnitude_of(b, 16)),
     };
-    if first.is_ne() { first } else { compare_bytes(a, b) }
+    if first.is_ne() {
+        first
+    } else {
+        compare_bytes(a, b)
+    }
 }
 
 /// The first key stands before the second.

@@ -87,10 +87,15 @@ pub struct ShardOf {
 }
 
 pub type BytesList = ListOf<Bytes>;
+
 pub type PairList = ListOf<Pair>;
+
 pub type ChangeList = ListOf<Change>;
+
 pub type GroupList = ListOf<Group>;
+
 pub type TouchList = ListOf<Touch>;
+
 pub type EntryList = ListOf<Entry>;
 
 /// The numbers of calls, counted from 0, that are to fail.
