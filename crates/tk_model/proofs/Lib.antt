@@ -3,3 +3,4 @@ pub mod Orders
 pub mod KeyOrders
 pub mod PlaceSteps
 pub mod PlainSteps
+pub mod RecordLaws

@@ -5,3 +5,4 @@ pub mod Entries
 pub mod OrderLaws
 pub mod Places
 pub mod OrderedRecords
+pub mod RecordLaws
