@@ -4,3 +4,5 @@ pub mod KeyOrders
 pub mod PlaceSteps
 pub mod PlainSteps
 pub mod RecordLaws
+pub mod NetChanges
+pub mod Shards

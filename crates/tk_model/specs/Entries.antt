@@ -134,10 +134,18 @@ abbrev pub changes_of : Order → List Pair → Entry → List Change
 changes_of o m entries.Clear = changes.Clear ∷ []
 changes_of o m e = net_changes (written_keys (touches e)) m (after_entry o e m)
 
+-- the key belongs to this shard
+abbrev pub holds_key : ShardOf → List ℕ → Bool
+holds_key s k = shard_of (mix_of k) s.of == s.index
+
+-- the records of this shard
+abbrev pub shard_records : ShardOf → List Pair → List Pair
+shard_records s m = filter (λ p. holds_key s p.key) m
+
 -- the change concerns this shard
 abbrev pub is_in_shard : ShardOf → Change → Bool
-is_in_shard s (changes.Put p) = shard_of (mix_of p.key) s.of == s.index
-is_in_shard s (changes.Drop k) = shard_of (mix_of k) s.of == s.index
+is_in_shard s (changes.Put p) = holds_key s p.key
+is_in_shard s (changes.Drop k) = holds_key s k
 is_in_shard s changes.Clear = true
 
 abbrev pub group_of : ℕ → List Change → List Group

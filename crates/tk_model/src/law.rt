@@ -1,6 +1,6 @@
 //! Laws, as functions that do nothing.
 ghost use Rattle.tk_model.specs.OrderLaws.{OrdersKeys};
-ghost use Rattle.tk_model.specs.RecordLaws.{Finds, KeepsRising, FoundAlike};
+ghost use Rattle.tk_model.specs.RecordLaws.{Finds, KeepsRising, FoundAlike, ChangesReach, PartsReach};
 
 use crate::Order;
 
@@ -16,6 +16,14 @@ pub fn records_are_a_map(order: Order)
     ensures finds { Finds order }
     ensures rising { KeepsRising order }
     ensures alike { FoundAlike order }
+{
+    let _ = order;
+}
+
+/// What a call changes leads to the records after it, in each shard and as a whole.
+pub fn changes_are_enough(order: Order)
+    ensures net { ChangesReach order }
+    ensures parts { PartsReach order }
 {
     let _ = order;
 }

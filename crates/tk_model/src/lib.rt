@@ -14,7 +14,7 @@ mod record;
 pub use bytes::Bytes;
 pub use error::{NoMemory, OpenError, Unopened};
 pub use hash::{bucket, fnv32, fnv32_from, fnv64, mix, shard};
-pub use law::{keys_in_line, records_are_a_map};
+pub use law::{changes_are_enough, keys_in_line, records_are_a_map};
 pub use list::ListOf;
 pub use order::{before, compare_keys, is_same};
 pub use plain::PlainMap;
