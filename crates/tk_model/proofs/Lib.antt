@@ -6,3 +6,4 @@ pub mod PlainSteps
 pub mod RecordLaws
 pub mod NetChanges
 pub mod Shards
+pub mod Limits

@@ -1,8 +1,8 @@
 -- What changes and calls keep of records in order.
-use Rattle.std.specs.Prelude.{◌≡◌, ℕ, ◌+◌, false, List, [], ◌∷◌, ◌++◌, length, filter, Some, None}
+use Rattle.std.specs.Prelude.{◌≡◌, ℕ, ◌+◌, true, false, List, [], ◌∷◌, ◌++◌, length, filter, Some, None}
 use Rattle.tk_model.specs.Orders.{same_bytes}
-use Rattle.tk_model.specs.Records.{find, put, without, after, replay, Rising}
-use Rattle.tk_model.specs.Entries.{after_entry, replay_entries, changes_of, shard_records, is_in_shard, group_of, parts}
+use Rattle.tk_model.specs.Records.{find, put, without, after, replay, Rising, AllFit, AllHeld, IsClearAlone}
+use Rattle.tk_model.specs.Entries.{is_legal, after_entry, replay_entries, changes_of, shard_records, is_in_shard, group_of, parts}
 use Rattle.tk_model.specs.declared.record.Order.{Order}
 use Rattle.tk_model.specs.declared.record.Pair.{Pair}
 use Rattle.tk_model.specs.declared.record.Group.{Group}
@@ -34,3 +34,9 @@ pub record PartsReach (o : Order) : Type 0 where
   pub shard : (s : ShardOf) (n : ℕ) (m : List Pair) (es : List Entry) → Rising o m → replay o (parts o s n m es) (shard_records s m) ≡ shard_records s (replay_entries o es m)
   pub more : (s : ShardOf) (n : ℕ) (m : List Pair) (es : List Entry) (e : Entry)
     → parts o s n m (es ++ e ∷ []) ≡ parts o s n m es ++ group_of (n + length es) (filter (is_in_shard s) (changes_of o (replay_entries o es m) e))
+
+-- keys and values stay within what a file can hold, and a clear is alone
+pub record KeepsLimits (o : Order) : Type 0 where
+  pub held : (e : Entry) (m : List Pair) → is_legal o m e ≡ true → AllHeld m → AllHeld (after_entry o e m)
+  pub fit : (e : Entry) (m : List Pair) → is_legal o m e ≡ true → AllHeld m → AllFit (changes_of o m e)
+  pub lone : (e : Entry) (m : List Pair) → is_legal o m e ≡ true → AllHeld m → IsClearAlone (changes_of o m e)

@@ -1,6 +1,6 @@
 //! Laws, as functions that do nothing.
 ghost use Rattle.tk_model.specs.OrderLaws.{OrdersKeys};
-ghost use Rattle.tk_model.specs.RecordLaws.{Finds, KeepsRising, FoundAlike, ChangesReach, PartsReach};
+ghost use Rattle.tk_model.specs.RecordLaws.{Finds, KeepsRising, FoundAlike, ChangesReach, PartsReach, KeepsLimits};
 
 use crate::Order;
 
@@ -24,6 +24,7 @@ pub fn records_are_a_map(order: Order)
 pub fn changes_are_enough(order: Order)
     ensures net { ChangesReach order }
     ensures parts { PartsReach order }
+    ensures limits { KeepsLimits order }
 {
     let _ = order;
 }
