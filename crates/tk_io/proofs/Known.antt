@@ -1,5 +1,5 @@
 -- Calls on known bytes, one after another.
-use Rattle.std.proofs.Common.{◌≡◌, ℕ, ◌+◌, List, ◌++◌, take, drop, Option, Some, None, refl, sym, subst, ap, ◌∙◌, append_assoc, length, ◌≤◌, arith}
+use Rattle.std.proofs.Common.{◌≡◌, ℕ, ◌+◌, List, ◌++◌, take, drop, Option, Some, None, refl, sym, subst, ap, ◌∙◌, append_assoc, length, arith}
 use Rattle.std.proofs.Math.Seq.{take-add}
 use Rattle.std.proofs.lemmas.List.{append-nil, take_all, take-append-drop, drop-drop}
 use Rattle.std.specs.Io.KnownBytes.{Appends, Consumes, Keeps}

@@ -1,6 +1,6 @@
-ghost use Rattle.std.specs.Prelude.{◌≡◌, ◌≤◌, ◌<◌, length, take, IfOk, OnOk, OnErr};
+ghost use Rattle.std.specs.Prelude.{◌≡◌, ◌≤◌, ◌<◌, length, take, IfOk, OnOk, OnErr, IsErrOf};
 ghost use Rattle.std.specs.Io.KnownBytes.{Appends, Consumes, IsAtEnd, Keeps};
-ghost use Rattle.tk_io.specs.Streams.{AppendsFront};
+ghost use Rattle.tk_io.specs.Streams.{AppendsFront, HasCause};
 
 use crate::{IoError, Sink, Source};
 use std::io::{ErrorKind, Read, Write};
@@ -106,7 +106,14 @@ impl<R: Read> Source for StdSource<R> {
         self.faults
     }
 
-    fn read(&mut self, into: &mut [u8]) -> Result<usize, IoError> {
+    fn read(&mut self, into: &mut [u8]) -> Result<usize, IoError>
+        ensures bound { IfOk result (λ n. n ≤ length into.old) }
+        ensures bytes { IfOk result (λ n. Consumes (R.remaining self.old.0) (R.remaining self.new.0) (take n into.new)) }
+        ensures end { IfOk result (λ n. n ≡ 0 → 0 < length into.old → IsAtEnd (R.remaining self.new.0)) }
+        ensures err { OnErr result (Keeps (R.remaining self.old.0) (R.remaining self.new.0)) }
+        ensures cause { HasCause self.old.1 self.new.1 result }
+        ensures memory { IsErrOf result IoError.NoMemory → ⊥ }
+    {
         match read_once(&mut self.inner, into) {
             Ok(n) => Ok(n),
             Err(_) => {
@@ -152,7 +159,12 @@ impl<W: Write> Sink for StdSink<W> {
         self.faults
     }
 
-    fn write_all(&mut self, bytes: &[u8]) -> Result<(), IoError> {
+    fn write_all(&mut self, bytes: &[u8]) -> Result<(), IoError>
+        ensures ok { OnOk result (Appends (W.contents self.old.0) (W.contents self.new.0) bytes.now) }
+        ensures fault { OnErr result (AppendsFront (W.contents self.old.0) (W.contents self.new.0) bytes.now) }
+        ensures cause { HasCause self.old.1 self.new.1 result }
+        ensures memory { IsErrOf result IoError.NoMemory → ⊥ }
+    {
         match hand_over(&mut self.inner, bytes) {
             Ok(()) => Ok(()),
             Err(_) => {

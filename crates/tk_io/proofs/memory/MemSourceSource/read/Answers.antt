@@ -1,4 +1,4 @@
-use Rattle.std.proofs.Common.{◌≡◌, ◌++◌, ◌+◌, List, ℕ, subst, take, drop}
+use Rattle.std.proofs.Common.{◌≡◌, ◌++◌, ◌+◌, subst, take, drop}
 use Rattle.std.proofs.lemmas.List.{take_rest}
 use Rattle.tk_io.specs.Memory.{SourceState}
 use Rattle.tk_io.proofs.Known.{read_on}
