@@ -1,11 +1,10 @@
 -- The parts of a fresh file.
-use Rattle.std.proofs.Common.{◌≡◌, ℕ, zero, suc, ◌+◌, ◌*◌, ◌<◌, ◌≤◌, ◌^◌, Bool, true, false, cond, eqb, List, [], ◌∷◌, ◌++◌, length, get_or, take, drop, refl, sym, ◌∙◌, ap, subst, arith, length-append}
+use Rattle.std.proofs.Common.{◌≡◌, ℕ, zero, suc, ◌<◌, ◌≤◌, ◌^◌, Bool, true, false, cond, eqb, List, [], ◌∷◌, ◌++◌, length, get_or, take, drop, refl, sym, ◌∙◌, ap, subst, arith, length-append}
 use Rattle.std.specs.Prelude.{map, replicate, Option, Some, None, IfSome}
 use Rattle.std.specs.Option.{is_some}
 use Rattle.std.specs.Int.{w64, to_be_bytes}
 use Rattle.std.proofs.lemmas.List.{append-nil, take_all, drop_at}
 use Rattle.tk_model.specs.declared.record.Pair.{Pair}
-use Rattle.tk_model.specs.declared.record.Change.{Change}
 use Rattle.tk_model.specs.declared.record.Change.TheVariants.{Put}
 use Rattle.tk_block.specs.declared.block.Body.{Body}
 use Rattle.tk_block.specs.declared.head.StaticHead.{StaticHead}
@@ -82,8 +81,8 @@ file_of h bodies count next =
 pub fresh_file : (h : StaticHead) (pairs : List Pair) (size count next : ℕ) (closing : Closing) → closing ≡ record { size = size; count = count; next = next }
     → size ≡ end_of (base_of h.p) (fresh_bodies (eqb h.kind 2) pairs) → count ≡ length pairs → next ≡ fresh_next pairs
     → (static_text h ++ closing_text closing) ++ (heads_text h.p (laid (base_of h.p) (fresh_bodies (eqb h.kind 2) pairs))
-        ++ texts (laid (base_of h.p) (fresh_bodies (eqb h.kind 2) pairs)) (links_of h.p [] (laid (base_of h.p) (fresh_bodies (eqb h.kind 2) pairs))))
-      ≡ fresh_text h pairs
+    ++ texts (laid (base_of h.p) (fresh_bodies (eqb h.kind 2) pairs)) (links_of h.p [] (laid (base_of h.p) (fresh_bodies (eqb h.kind 2) pairs))))
+    ≡ fresh_text h pairs
 unfolding file_text file_of
 fresh_file h pairs size count next closing is sized counted numbered =
     let bodies = fresh_bodies (eqb h.kind 2) pairs in

@@ -1,5 +1,5 @@
 -- Blocks one after another, their links and their text.
-use Rattle.std.proofs.Common.{◌≡◌, ℕ, zero, suc, ◌+◌, ◌<◌, ◌≤◌, Bool, true, false, cond, eqb, List, [], ◌∷◌, ◌++◌, length, get_or, take, drop, refl, sym, ◌∙◌, ap, inl, inr, add-one, arith, append_assoc, length-append}
+use Rattle.std.proofs.Common.{◌≡◌, ℕ, zero, suc, ◌+◌, ◌<◌, ◌≤◌, Bool, true, false, eqb, List, [], ◌∷◌, ◌++◌, length, get_or, take, drop, refl, sym, ◌∙◌, ap, inl, inr, add-one, arith, append_assoc, length-append}
 use Rattle.std.specs.Prelude.{◌-◌, replicate}
 use Rattle.std.specs.Int.{w32, w64, to_be_bytes}
 use Rattle.std.proofs.lemmas.List.{length-replicate, length-take, take_all, drop_all}
@@ -8,7 +8,6 @@ use Rattle.tk_block.specs.Text.{checked, check_number, head_text}
 use Rattle.tk_block.proofs.Heads.{length-head_text}
 use Rattle.std.proofs.lemmas.List.{append-nil}
 use Rattle.tk_model.specs.declared.record.Pair.{Pair}
-use Rattle.tk_model.specs.declared.record.Change.{Change}
 use Rattle.tk_model.specs.declared.record.Change.TheVariants.{Put}
 use Rattle.tk_block.specs.declared.block.Body.{Body}
 use Rattle.tk_block.specs.Blocks.{IsSmall, extent_of, body_of, is_nil, block_text, numbers_text, body_front, room_of}
@@ -33,8 +32,8 @@ pub links_of-append : (p : ℕ) (before xs ys : List Placed) → links_of p befo
 links_of-append p before [] ys = ap (λ (l : List Placed). links_of p l ys) (sym (append-nil before))
 links_of-append p before (x ∷ xs) ys =
     ap (λ (l : List ℕ). link_of p before x.body ∷ l)
-      (links_of-append p (before ++ x ∷ []) xs ys
-      ∙ ap (λ (l : List Placed). links_of p (before ++ x ∷ []) xs ++ links_of p l ys) (append_assoc before (x ∷ []) xs))
+    (links_of-append p (before ++ x ∷ []) xs ys
+    ∙ ap (λ (l : List Placed). links_of p (before ++ x ∷ []) xs ++ links_of p l ys) (append_assoc before (x ∷ []) xs))
 
 pub length-links_of : (p : ℕ) (before xs : List Placed) → length (links_of p before xs) ≡ length xs
 length-links_of p before [] = refl
@@ -92,8 +91,17 @@ length-block_text b place link =
     let front = body_front b in
     let check_bytes = to_be_bytes w32 (check_number front place) in
     let pad : List ℕ = replicate (extent_of b - room_of b) 0 in
-    omega (arith, length-append ((head ++ link_bytes) ++ (front ++ check_bytes)) pad, length-append (head ++ link_bytes) (front ++ check_bytes), length-append head link_bytes,
-      length-append front check_bytes, length-append (numbers_text b ++ b.key) b.value, length-append (numbers_text b) b.key, length-replicate {A = ℕ} (extent_of b - room_of b) 0, length-head_text (extent_of b) place)
+    omega (
+      arith,
+      length-append ((head ++ link_bytes) ++ (front ++ check_bytes)) pad,
+      length-append (head ++ link_bytes) (front ++ check_bytes),
+      length-append head link_bytes,
+      length-append front check_bytes,
+      length-append (numbers_text b ++ b.key) b.value,
+      length-append (numbers_text b) b.key,
+      length-replicate {A = ℕ} (extent_of b - room_of b) 0,
+      length-head_text (extent_of b) place,
+    )
 
 is_nil-drop : (pairs : List Pair) (k : ℕ) → k < length pairs → is_nil (drop k pairs) ≡ false
 is_nil-drop [] k within = absurd (omega arith)
@@ -103,9 +111,9 @@ is_nil-drop (p ∷ ps) (suc k) within = is_nil-drop ps k (omega arith)
 -- the flag of the block at i
 pub flag_at : (pairs : List Pair) (i : ℕ) → i < length pairs → is_nil (drop (suc i) pairs) ≡ eqb (i + 1) (length pairs)
 flag_at pairs i within = elim (cases_eq (i + 1) (length pairs)) [
-    | inl e ↦ ap is_nil (drop_all (suc i) pairs (omega (arith, e))) ∙ sym (eq-eqb _ _ e)
-    | inr ne ↦ is_nil-drop pairs (suc i) (omega (arith, ne)) ∙ sym (ne_eqb _ _ ne)
-  ]
+  | inl e ↦ ap is_nil (drop_all (suc i) pairs (omega (arith, e))) ∙ sym (eq-eqb _ _ e)
+  | inr ne ↦ is_nil-drop pairs (suc i) (omega (arith, ne)) ∙ sym (ne_eqb _ _ ne)
+]
 
 -- a text with a block more
 pub length-grown : (new old : List ℕ) (b : Body) (place link : ℕ) → new ≡ old ++ block_text b place link → length new ≡ length old + extent_of b
@@ -121,7 +129,7 @@ end_of-more place each pairs i pair last within is =
 -- the blocks with one record more
 pub laid-more : (base : ℕ) (each : Bool) (pairs : List Pair) (i : ℕ) (pair : Pair) → i < length pairs → pair ≡ get_or pairs i pair
     → laid base (take (i + 1) (fresh_bodies each pairs))
-      ≡ laid base (take i (fresh_bodies each pairs)) ++ record { place = end_of base (take i (fresh_bodies each pairs)); body = body_of 0 (Put pair) (each || is_nil (drop (suc i) pairs)) } ∷ []
+    ≡ laid base (take i (fresh_bodies each pairs)) ++ record { place = end_of base (take i (fresh_bodies each pairs)); body = body_of 0 (Put pair) (each || is_nil (drop (suc i) pairs)) } ∷ []
 laid-more base each pairs i pair within is =
     ap (λ (l : List Body). laid base l) (bodies-more each pairs i pair within is)
     ∙ laid-append base (take i (fresh_bodies each pairs)) (body_of 0 (Put pair) (each || is_nil (drop (suc i) pairs)) ∷ [])
@@ -135,17 +143,17 @@ first-drop (x ∷ xs) (suc i) = first-drop xs i
 pub texts-more : (base : ℕ) (each : Bool) (pairs : List Pair) (links : List ℕ) (i : ℕ) (pair : Pair) (last : Bool) (place link : ℕ) (text : List ℕ)
     → i < length pairs → pair ≡ get_or pairs i pair → last ≡ (each || eqb (i + 1) (length pairs)) → place ≡ end_of base (take i (fresh_bodies each pairs)) → link ≡ get_or links i 0
     → (text ++ texts (laid base (take i (fresh_bodies each pairs))) links) ++ block_text (body_of 0 (Put pair) last) place link
-      ≡ text ++ texts (laid base (take (i + 1) (fresh_bodies each pairs))) links
+    ≡ text ++ texts (laid base (take (i + 1) (fresh_bodies each pairs))) links
 texts-more base each pairs links i pair last place link text within is flagged placed linked =
     let before : List Placed = laid base (take i (fresh_bodies each pairs)) in
     let count : length before ≡ i = length-laid base (take i (fresh_bodies each pairs)) ∙ omega (arith, length-take i (fresh_bodies each pairs), length-fresh_bodies each pairs) in
     let tail : block_text (body_of 0 (Put pair) last) place link
-        ≡ texts (record { place = end_of base (take i (fresh_bodies each pairs)); body = body_of 0 (Put pair) (each || is_nil (drop (suc i) pairs)) } ∷ []) (drop (length before) links) =
-      ap (λ (b : Bool). block_text (body_of 0 (Put pair) b) place link) (flagged ∙ ap (λ (b : Bool). each || b) (sym (flag_at pairs i within)))
-      ∙ ap (λ (n : ℕ). block_text (body_of 0 (Put pair) (each || is_nil (drop (suc i) pairs))) n link) placed
-      ∙ ap (λ (n : ℕ). block_text (body_of 0 (Put pair) (each || is_nil (drop (suc i) pairs))) (end_of base (take i (fresh_bodies each pairs))) n)
-          (linked ∙ sym (first-drop links i) ∙ ap (λ (k : ℕ). first_or_none (drop k links)) (sym count))
-      ∙ sym (append-nil _) in
+    ≡ texts (record { place = end_of base (take i (fresh_bodies each pairs)); body = body_of 0 (Put pair) (each || is_nil (drop (suc i) pairs)) } ∷ []) (drop (length before) links) =
+    ap (λ (b : Bool). block_text (body_of 0 (Put pair) b) place link) (flagged ∙ ap (λ (b : Bool). each || b) (sym (flag_at pairs i within)))
+    ∙ ap (λ (n : ℕ). block_text (body_of 0 (Put pair) (each || is_nil (drop (suc i) pairs))) n link) placed
+    ∙ ap (λ (n : ℕ). block_text (body_of 0 (Put pair) (each || is_nil (drop (suc i) pairs))) (end_of base (take i (fresh_bodies each pairs))) n)
+    (linked ∙ sym (first-drop links i) ∙ ap (λ (k : ℕ). first_or_none (drop k links)) (sym count))
+    ∙ sym (append-nil _) in
     append_assoc text (texts before links) (block_text (body_of 0 (Put pair) last) place link)
     ∙ ap (λ (l : List ℕ). text ++ (texts before links ++ l)) tail
     ∙ ap (λ (l : List ℕ). text ++ l) (sym (texts-append before _ links))

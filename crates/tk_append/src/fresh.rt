@@ -27,7 +27,11 @@ fn header_of(head: &StaticHead, closing: &Closing) -> [u8; 64]
 }
 
 /// Writes the header over the front.
-fn write_header<D: Disk>(disk: &mut D, head: &StaticHead, closing: &Closing) -> Result<(), DiskError>
+fn write_header<D: Disk>(
+    disk: &mut D,
+    head: &StaticHead,
+    closing: &Closing,
+) -> Result<(), DiskError>
     requires p { head.now.p ≤ 24 }
     requires there { IfSome (D.image disk.old) (λ f. 64 ≤ length f) }
     ensures written { OnOk result (IfSome (D.image disk.old) (λ f. D.image disk.new ≡ Some ((static_text head.now ++ closing_text closing.now) ++ drop 64 f))) }

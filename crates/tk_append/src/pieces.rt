@@ -10,7 +10,11 @@ use tk_model::Bytes;
 pub(crate) const PIECE: usize = 1 << 20;
 
 /// Writes what waits at the end of the disk.
-pub(crate) fn flush<D: Disk>(disk: &mut D, at: &mut u64, waiting: &mut Bytes) -> Result<(), DiskError>
+pub(crate) fn flush<D: Disk>(
+    disk: &mut D,
+    at: &mut u64,
+    waiting: &mut Bytes,
+) -> Result<(), DiskError>
     requires here { IfSome (D.image disk.old) (λ f. length f ≡ at.old) }
     requires end { at.old + length waiting.old ≤ 2 ^ 40 }
     ensures text { (text : List ℕ) → Holds (D.image disk.old) at.old waiting.old text → OnOk result (Holds (D.image disk.new) at.new waiting.new text) }
@@ -27,7 +31,11 @@ pub(crate) fn flush<D: Disk>(disk: &mut D, at: &mut u64, waiting: &mut Bytes) ->
 }
 
 /// Writes what waits where that is a whole piece.
-pub(crate) fn flush_piece<D: Disk>(disk: &mut D, at: &mut u64, waiting: &mut Bytes) -> Result<(), DiskError>
+pub(crate) fn flush_piece<D: Disk>(
+    disk: &mut D,
+    at: &mut u64,
+    waiting: &mut Bytes,
+) -> Result<(), DiskError>
     requires here { IfSome (D.image disk.old) (λ f. length f ≡ at.old) }
     requires end { at.old + length waiting.old ≤ 2 ^ 40 }
     ensures text { (text : List ℕ) → Holds (D.image disk.old) at.old waiting.old text → OnOk result (Holds (D.image disk.new) at.new waiting.new text) }

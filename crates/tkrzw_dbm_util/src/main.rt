@@ -5,9 +5,8 @@ ghost use Rattle.std.specs.Prelude.{IfOk};
 ghost use Rattle.tk_disk.specs.Folder.{NoneOut};
 ghost use Rattle.tk_disk.specs.DirFolder.{dir_is_out};
 
-use std::env;
-use std::io;
 use std::process::ExitCode;
+use std::{env, io};
 use tk_disk::DirFolder;
 use tk_model::NoMemory;
 use tk_status::Finish;

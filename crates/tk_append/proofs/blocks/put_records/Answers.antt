@@ -1,6 +1,5 @@
-use Rattle.std.proofs.Common.{◌≡◌, ℕ, ◌+◌, List, ◌++◌, length, get_or, take, refl, sym, ◌∙◌, ap, subst, arith}
+use Rattle.std.proofs.Common.{ℕ, ◌+◌, List, ◌++◌, length, get_or, take, refl, sym, ◌∙◌, ap, subst, arith}
 use Rattle.tk_model.specs.declared.record.Pair.{Pair}
-use Rattle.tk_model.specs.declared.record.Change.TheVariants.{Put}
 use Rattle.tk_block.specs.declared.block.Body.{Body}
 use Rattle.tk_block.specs.Blocks.{IsSmall}
 use Rattle.tk_block.specs.Layout.{laid, end_of, texts}
@@ -27,9 +26,9 @@ loop-i-preserved g c =
     let more = end_of-more start c.args.each c.args.pairs.now c.loop-i.i c.index-pairs-i.result c.is_flagged-last.result c.loop-i-test.true c.index-pairs-i.is in
     record {
       text = λ text h.
-        subst (λ (l : List ℕ). Holds (g.D.Disk.image c.put_record.new.disk) c.put_record.new.at c.put_record.new.waiting l)
+          subst (λ (l : List ℕ). Holds (g.D.Disk.image c.put_record.new.disk) c.put_record.new.at c.put_record.new.waiting l)
           (texts-more start c.args.each c.args.pairs.now c.args.links.now c.loop-i.i c.index-pairs-i.result c.is_flagged-last.result (c.loop-i.at + length c.loop-i.waiting) (get_or c.args.links.now c.loop-i.i 0) text
-            c.loop-i-test.true c.index-pairs-i.is c.is_flagged-last.ensures c.loop-i.invariant.end refl)
+          c.loop-i-test.true c.index-pairs-i.is c.is_flagged-last.ensures c.loop-i.invariant.end refl)
           (c.in_ok-put_record.ensures.text (text ++ texts (laid start (take c.loop-i.i bodies)) c.args.links.now) (c.loop-i.invariant.text text h));
       here = c.in_ok-put_record.ensures.here;
       end = omega (arith, c.in_ok-put_record.ensures.end, c.loop-i.invariant.end, more);
@@ -41,7 +40,7 @@ pub returns-clause-text : goal.returns-clause-text
 returns-clause-text g c text h =
     let start = c.args.at.now + length c.args.waiting.now in
     subst (λ (l : List Body). Holds (g.D.Disk.image c.loop-i.disk) c.loop-i.at c.loop-i.waiting (text ++ texts (laid start l) c.args.links.now))
-      (taken_all c.args.each c.args.pairs.now c.loop-i.i c.loop-i-test.false) (c.loop-i.invariant.text text h)
+    (taken_all c.args.each c.args.pairs.now c.loop-i.i c.loop-i-test.false) (c.loop-i.invariant.text text h)
 
 pub returns-clause-end : goal.returns-clause-end
 returns-clause-end g c =

@@ -9,7 +9,7 @@ use Rattle.tk_append.proofs.blocks.put_records.Given as goal
 abbrev pub invariant-loop-i : goal.invariant-loop-i
 invariant-loop-i g l = record {
   text : (text : List ℕ) → Holds (g.D.Disk.image l.initial.disk) l.initial.at l.initial.waiting text
-    → Holds (g.D.Disk.image l.disk) l.at l.waiting (text ++ texts (laid (l.initial.at + length l.initial.waiting) (take l.i (fresh_bodies l.each l.pairs))) l.links);
+      → Holds (g.D.Disk.image l.disk) l.at l.waiting (text ++ texts (laid (l.initial.at + length l.initial.waiting) (take l.i (fresh_bodies l.each l.pairs))) l.links);
   here : IfSome (g.D.Disk.image l.disk) (λ f. length f ≡ l.at);
   end : l.at + length l.waiting ≡ end_of (l.initial.at + length l.initial.waiting) (take l.i (fresh_bodies l.each l.pairs));
   told : is_some (g.D.Disk.image l.disk) ≡ is_some (g.D.Disk.image l.initial.disk);

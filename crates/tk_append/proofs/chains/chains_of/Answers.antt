@@ -1,12 +1,11 @@
-use Rattle.std.proofs.Common.{◌≡◌, ◌^◌, ◌+◌, ◌<◌, ◌≤◌, Bool, true, false, List, [], ◌∷◌, ◌++◌, ℕ, length, get_or, ap, sym, subst, arith, ◌∙◌}
+use Rattle.std.proofs.Common.{◌≡◌, ◌+◌, ◌<◌, true, List, [], ◌∷◌, ◌++◌, ℕ, length, get_or, ap, sym, subst, arith, ◌∙◌}
 use Rattle.std.proofs.Math.ListN.{set}
 use Rattle.std.proofs.lemmas.Grind.{get_or_default_zero}
-use Rattle.std.proofs.Common.{take}
 use Rattle.tk_model.specs.Hashes.{mix_of, bucket_of}
 use Rattle.tk_model.specs.declared.record.Pair.{Pair}
 use Rattle.tk_block.specs.Blocks.{extent_for}
 use Rattle.tk_block.specs.Text.{base_of}
-use Rattle.tk_block.specs.Layout.{Placed, laid, links_of, end_of, bucket_in}
+use Rattle.tk_block.specs.Layout.{laid, links_of, bucket_in}
 use Rattle.tk_block.specs.declared.block.Body.{Body}
 use Rattle.tk_append.specs.Fresh.{fresh_bodies}
 use Rattle.tk_append.specs.Chains.{HeadsAre}
@@ -29,10 +28,10 @@ overflow_add-place c =
     let slot_below : c.bucket-slot.result < length c.loop-pair.heads.items = omega (arith, c.bucket-slot.ensures.below, (c.loop-pair.invariant true).heads_are.whole) in
     let slot_is : c.bucket-slot.result ≡ bucket_in c.args.p c.pair-item.result.key = c.bucket-slot.ensures.value ∙ ap (λ (m : ℕ). bucket_of m c.args.p) (c.mix.ensures ∙ ap (λ (k : List ℕ). mix_of k) c.as_slice.ensures) in
     let extent_is : c.extent_of-place.result ≡ extent_for (44 + length c.pair-item.result.key + length c.pair-item.result.value) =
-      c.extent_of-place.ensures.value ∙ ap (λ (n : ℕ). extent_for (44 + n + c.len-in-loop-pair.result)) c.len.ensures
-      ∙ ap (λ (n : ℕ). extent_for (44 + length c.pair-item.result.key + n)) c.len-in-loop-pair.ensures in
+    c.extent_of-place.ensures.value ∙ ap (λ (n : ℕ). extent_for (44 + n + c.len-in-loop-pair.result)) c.len.ensures
+    ∙ ap (λ (n : ℕ). extent_for (44 + length c.pair-item.result.key + n)) c.len-in-loop-pair.ensures in
     let step = chain_step c.args.p (base_of c.args.p) true c.args.pairs.now c.loop-pair.pair-index c.pair-item.result c.loop-pair-test.true c.pair-item.is
-        c.loop-pair.heads.items c.loop-pair.links.items c.loop-pair.place c.bucket-slot.result c.extent_of-place.result slot_is c.bucket-slot.ensures.below extent_is (c.loop-pair.invariant true) in
+    c.loop-pair.heads.items c.loop-pair.links.items c.loop-pair.place c.bucket-slot.result c.extent_of-place.result slot_is c.bucket-slot.ensures.below extent_is (c.loop-pair.invariant true) in
     let most = end_of-take (base_of c.args.p) (c.loop-pair.pair-index + 1) (fresh_bodies true c.args.pairs.now) in
     omega (arith, step.place_is, most, c.requires.end true)
 
@@ -41,18 +40,18 @@ loop-pair-preserved c each =
     let slot_below : c.bucket-slot.result < length c.loop-pair.heads.items = omega (arith, c.bucket-slot.ensures.below, (c.loop-pair.invariant each).heads_are.whole) in
     let slot_is : c.bucket-slot.result ≡ bucket_in c.args.p c.pair-item.result.key = c.bucket-slot.ensures.value ∙ ap (λ (m : ℕ). bucket_of m c.args.p) (c.mix.ensures ∙ ap (λ (k : List ℕ). mix_of k) c.as_slice.ensures) in
     let extent_is : c.extent_of-place.result ≡ extent_for (44 + length c.pair-item.result.key + length c.pair-item.result.value) =
-      c.extent_of-place.ensures.value ∙ ap (λ (n : ℕ). extent_for (44 + n + c.len-in-loop-pair.result)) c.len.ensures
-      ∙ ap (λ (n : ℕ). extent_for (44 + length c.pair-item.result.key + n)) c.len-in-loop-pair.ensures in
+    c.extent_of-place.ensures.value ∙ ap (λ (n : ℕ). extent_for (44 + n + c.len-in-loop-pair.result)) c.len.ensures
+    ∙ ap (λ (n : ℕ). extent_for (44 + length c.pair-item.result.key + n)) c.len-in-loop-pair.ensures in
     let pushed : c.push.new.self.items ≡ c.loop-pair.links.items ++ get_or c.loop-pair.heads.items c.bucket-slot.result 0 ∷ [] =
-      c.in_ok-push.ensures.items ∙ ap (λ (n : ℕ). c.loop-pair.links.items ++ n ∷ []) (c.index.ensures ∙ get_or_default_zero c.loop-pair.heads.items c.bucket-slot.result c.index.result.now slot_below) in
+    c.in_ok-push.ensures.items ∙ ap (λ (n : ℕ). c.loop-pair.links.items ++ n ∷ []) (c.index.ensures ∙ get_or_default_zero c.loop-pair.heads.items c.bucket-slot.result c.index.result.now slot_below) in
     subst (λ (l : List ℕ). Chained c.args.p (base_of c.args.p) (fresh_bodies each c.args.pairs.now) (c.loop-pair.pair-index + 1) (set c.loop-pair.heads.items c.bucket-slot.result c.loop-pair.place) l (c.loop-pair.place + c.extent_of-place.result)) (sym pushed)
-      (chain_step c.args.p (base_of c.args.p) each c.args.pairs.now c.loop-pair.pair-index c.pair-item.result c.loop-pair-test.true c.pair-item.is
-        c.loop-pair.heads.items c.loop-pair.links.items c.loop-pair.place c.bucket-slot.result c.extent_of-place.result slot_is c.bucket-slot.ensures.below extent_is (c.loop-pair.invariant each))
+    (chain_step c.args.p (base_of c.args.p) each c.args.pairs.now c.loop-pair.pair-index c.pair-item.result c.loop-pair-test.true c.pair-item.is
+    c.loop-pair.heads.items c.loop-pair.links.items c.loop-pair.place c.bucket-slot.result c.extent_of-place.result slot_is c.bucket-slot.ensures.below extent_is (c.loop-pair.invariant each))
 
 pub returns-clause-heads : goal.returns-clause-heads
 returns-clause-heads c each =
     subst (λ (l : List Body). HeadsAre c.args.p c.loop-pair.heads.items (laid (base_of c.args.p) l)) (taken_all each c.args.pairs.now c.loop-pair.pair-index c.loop-pair-test.false)
-      (c.loop-pair.invariant each).heads_are
+    (c.loop-pair.invariant each).heads_are
 
 pub returns-clause-links : goal.returns-clause-links
 returns-clause-links c each =

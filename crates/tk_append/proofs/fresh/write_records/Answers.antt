@@ -1,9 +1,7 @@
-use Rattle.std.proofs.Common.{◌≡◌, ℕ, ◌+◌, ◌*◌, ◌≤◌, ◌^◌, Bool, List, [], ◌++◌, length, refl, sym, ◌∙◌, ap, subst, arith, append_assoc, length-append}
+use Rattle.std.proofs.Common.{◌≡◌, ℕ, ◌+◌, ◌≤◌, ◌^◌, List, [], ◌++◌, length, sym, ◌∙◌, ap, subst, arith, append_assoc}
 use Rattle.std.specs.Prelude.{replicate}
-use Rattle.std.proofs.lemmas.List.{length-replicate}
-use Rattle.tk_block.specs.declared.block.Body.{Body}
 use Rattle.tk_block.specs.Text.{base_of}
-use Rattle.tk_block.specs.Layout.{Placed, laid, end_of, heads_text, texts, links_of}
+use Rattle.tk_block.specs.Layout.{laid, end_of, heads_text, texts, links_of}
 use Rattle.tk_append.specs.Fresh.{fresh_bodies}
 use Rattle.tk_append.specs.Pieces.{Holds, words_text}
 use Rattle.tk_append.proofs.Layouts.{end_of-each, end_of-least, length-links_of, length-laid, length-fresh_bodies}
@@ -39,7 +37,7 @@ flush-requires-clause-end g c =
     let heads : length c.deref.result.now ≡ 2 ^ c.args.p = ap length c.deref.ensures.value ∙ (c.in_ok-chains.ensures.heads c.args.each).whole in
     let start : c.put_words.new.at + length c.put_words.new.waiting ≡ base_of c.args.p = omega (arith, ap length zeros, heads, c.in_ok-put_words.ensures.end) in
     let end : c.put_records.new.at + length c.put_records.new.waiting ≡ end_of (base_of c.args.p) (fresh_bodies c.args.each c.args.pairs.now) =
-      c.in_ok-put_records.ensures.end ∙ ap (λ (n : ℕ). end_of n (fresh_bodies c.args.each c.args.pairs.now)) start in
+    c.in_ok-put_records.ensures.end ∙ ap (λ (n : ℕ). end_of n (fresh_bodies c.args.each c.args.pairs.now)) start in
     omega (arith, end, c.requires.end)
 
 pub returns-clause-written : goal.returns-clause-written
@@ -50,20 +48,20 @@ returns-clause-written g c =
     let heads : length c.deref.result.now ≡ 2 ^ c.args.p = ap length c.deref.ensures.value ∙ (c.in_ok-chains.ensures.heads c.args.each).whole in
     let start : c.put_words.new.at + length c.put_words.new.waiting ≡ base = omega (arith, ap length zeros, heads, c.in_ok-put_words.ensures.end) in
     let words : words_text c.deref.result.now ≡ heads_text c.args.p (laid base bodies) =
-      ap words_text c.deref.ensures.value ∙ words_text-heads c.args.p _ (laid base bodies) (c.in_ok-chains.ensures.heads c.args.each) in
+    ap words_text c.deref.ensures.value ∙ words_text-heads c.args.p _ (laid base bodies) (c.in_ok-chains.ensures.heads c.args.each) in
     let text : (replicate 64 0 ++ words_text c.deref.result.now) ++ texts (laid (c.put_words.new.at + length c.put_words.new.waiting) bodies) c.deref-2.result.now
-        ≡ replicate 64 0 ++ (heads_text c.args.p (laid base bodies) ++ texts (laid base bodies) (links_of c.args.p [] (laid base bodies))) =
-      append_assoc (replicate 64 0) (words_text c.deref.result.now) _
-      ∙ ap (λ (l : List ℕ). replicate 64 0 ++ (l ++ texts (laid (c.put_words.new.at + length c.put_words.new.waiting) bodies) c.deref-2.result.now)) words
-      ∙ ap (λ (n : ℕ). replicate 64 0 ++ (heads_text c.args.p (laid base bodies) ++ texts (laid n bodies) c.deref-2.result.now)) start
-      ∙ ap (λ (l : List ℕ). replicate 64 0 ++ (heads_text c.args.p (laid base bodies) ++ texts (laid base bodies) l)) (c.deref-2.ensures.value ∙ c.in_ok-chains.ensures.links c.args.each) in
+    ≡ replicate 64 0 ++ (heads_text c.args.p (laid base bodies) ++ texts (laid base bodies) (links_of c.args.p [] (laid base bodies))) =
+    append_assoc (replicate 64 0) (words_text c.deref.result.now) _
+    ∙ ap (λ (l : List ℕ). replicate 64 0 ++ (l ++ texts (laid (c.put_words.new.at + length c.put_words.new.waiting) bodies) c.deref-2.result.now)) words
+    ∙ ap (λ (n : ℕ). replicate 64 0 ++ (heads_text c.args.p (laid base bodies) ++ texts (laid n bodies) c.deref-2.result.now)) start
+    ∙ ap (λ (l : List ℕ). replicate 64 0 ++ (heads_text c.args.p (laid base bodies) ++ texts (laid base bodies) l)) (c.deref-2.ensures.value ∙ c.in_ok-chains.ensures.links c.args.each) in
     let whole : List ℕ = replicate 64 0 ++ (heads_text c.args.p (laid base bodies) ++ texts (laid base bodies) (links_of c.args.p [] (laid base bodies))) in
     all_written (g.D.Disk.image c.args.disk.now) (g.D.Disk.image c.flush.new.disk) c.flush.new.at (replicate 64 0) whole c.requires.empty
-      (λ holds.
-        subst (λ (l : List ℕ). Holds (g.D.Disk.image c.flush.new.disk) c.flush.new.at l whole) c.in_ok-flush.ensures.waits
-        (subst (λ (l : List ℕ). Holds (g.D.Disk.image c.flush.new.disk) c.flush.new.at c.flush.new.waiting l) text
-        (c.in_ok-flush.ensures.text _ (c.in_ok-put_records.ensures.text _ (c.in_ok-put_words.ensures.text (replicate 64 0)
-          (subst (λ (l : List ℕ). Holds (g.D.Disk.image c.args.disk.now) 0 l (replicate 64 0)) (sym zeros) holds))))))
+    (λ holds.
+    subst (λ (l : List ℕ). Holds (g.D.Disk.image c.flush.new.disk) c.flush.new.at l whole) c.in_ok-flush.ensures.waits
+    (subst (λ (l : List ℕ). Holds (g.D.Disk.image c.flush.new.disk) c.flush.new.at c.flush.new.waiting l) text
+    (c.in_ok-flush.ensures.text _ (c.in_ok-put_records.ensures.text _ (c.in_ok-put_words.ensures.text (replicate 64 0)
+    (subst (λ (l : List ℕ). Holds (g.D.Disk.image c.args.disk.now) 0 l (replicate 64 0)) (sym zeros) holds))))))
 
 pub returns-clause-end : goal.returns-clause-end
 returns-clause-end g c =
@@ -71,5 +69,5 @@ returns-clause-end g c =
     let heads : length c.deref.result.now ≡ 2 ^ c.args.p = ap length c.deref.ensures.value ∙ (c.in_ok-chains.ensures.heads c.args.each).whole in
     let start : c.put_words.new.at + length c.put_words.new.waiting ≡ base_of c.args.p = omega (arith, ap length zeros, heads, c.in_ok-put_words.ensures.end) in
     let end : c.put_records.new.at + length c.put_records.new.waiting ≡ end_of (base_of c.args.p) (fresh_bodies c.args.each c.args.pairs.now) =
-      c.in_ok-put_records.ensures.end ∙ ap (λ (n : ℕ). end_of n (fresh_bodies c.args.each c.args.pairs.now)) start in
+    c.in_ok-put_records.ensures.end ∙ ap (λ (n : ℕ). end_of n (fresh_bodies c.args.each c.args.pairs.now)) start in
     c.in_ok-flush.ensures.end ∙ end
