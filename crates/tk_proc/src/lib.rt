@@ -1,0 +1,9 @@
+//! Record processors: what is to become of a record, by the value that it has.
+#![tactic(auto)]
+
+mod processor;
+mod ready;
+
+pub use processor::{RecordProcessor, ask};
+pub use ready::{Adder, Getter, Remover, Setter};
+
