@@ -10,7 +10,9 @@ use Rattle.tk_model.specs.declared.record.Bound.{Bound}
 use Rattle.tk_model.specs.declared.record.Pair.{Pair}
 use Rattle.tk_model.specs.declared.record.Touch.{Touch}
 use Rattle.tk_model.specs.declared.record.Action.{Action}
-use Rattle.tk_model.specs.declared.record.Action.TheVariants.{Keep}
+use Rattle.tk_model.specs.declared.record.Action.TheVariants.{Keep, Put, Drop}
+use Rattle.tk_model.specs.declared.record.Change.{Change}
+use Rattle.tk_model.specs.declared.record.Change.TheVariants as changes
 use Rattle.tk_model.specs.declared.record.Entry.{Entry}
 use Rattle.tk_model.specs.declared.record.Entry.TheVariants as entries
 
@@ -48,6 +50,13 @@ short a = if is_long a then Keep else a
 
 abbrev pub short_status : Action → Status
 short_status a = if is_long a then TooLong (stored a) else Success
+
+-- the net changes of one action at a key
+abbrev pub action_changes : List ℕ → Option (List ℕ) → Action → List Change
+action_changes k was Keep = []
+action_changes k was (Put v) = changes.Put (record { key = k; value = v }) ∷ []
+action_changes k (Some u) Drop = changes.Drop k ∷ []
+action_changes k None Drop = []
 
 module _ {S : Type 0} (acts : S → List ℕ → Option (List ℕ) → Action) (turns : S → List ℕ → Option (List ℕ) → S) where
   -- the touches in turn: each key with the value in the map so far and the action, which moves that map
