@@ -90,7 +90,7 @@ kept_each : (ps m : List Pair) → AllFound m ps → are_all (map (kept m) (keys
 kept_each [] m found = refl
 kept_each (p ∷ ps) m found =
     let rest : (same_value (find p.key m) (Some p.value) && are_all (map (kept m) (keys_of ps)) ps) ≡ true =
-      both (same_value (find p.key m) (Some p.value)) (are_all (map (kept m) (keys_of ps)) ps) (found_same p m found.0) (kept_each ps m found.1) in
+    both (same_value (find p.key m) (Some p.value)) (are_all (map (kept m) (keys_of ps)) ps) (found_same p m found.0) (kept_each ps m found.1) in
     rw (same_itself p.key) rest
 
 keys_short : (m : List Pair) → AllHeld m → AllShort (keys_of m)
@@ -146,8 +146,8 @@ module _ {S : Type 0} (acts : S → List ℕ → Option (List ℕ) → Action) (
   run_were o w s [] m = refl
   run_were o w s (k ∷ ks) m =
       both (same_value (find k m) (find k m))
-        (all_were o (run_touches acts turns o w (turns s k (find k m)) ks (touched o k (counted w (acts s k (find k m))) m)) (touched o k (counted w (acts s k (find k m))) m))
-        (same_found (find k m)) (run_were o w (turns s k (find k m)) ks (touched o k (counted w (acts s k (find k m))) m))
+      (all_were o (run_touches acts turns o w (turns s k (find k m)) ks (touched o k (counted w (acts s k (find k m))) m)) (touched o k (counted w (acts s k (find k m))) m))
+      (same_found (find k m)) (run_were o w (turns s k (find k m)) ks (touched o k (counted w (acts s k (find k m))) m))
 
   run_fit : (o : Order) (w : Bool) (s : S) (ks : List (List ℕ)) (m : List Pair) → AllShort ks → first_long (run_touches acts turns o w s ks m) ≡ None
       → list_all fits (run_touches acts turns o w s ks m) ≡ true
@@ -156,8 +156,8 @@ module _ {S : Type 0} (acts : S → List ℕ → Option (List ℕ) → Action) (
       let a : Action = counted w (acts s k (find k m)) in
       let rest : List Touch = run_touches acts turns o w (turns s k (find k m)) ks (touched o k a m) in
       both (fits (record { key = k; was = find k m; action = a })) (list_all fits rest)
-        (short_fits k (find k m) a short.0 (not_long a (none_first (is_long a) (stored a) (first_long rest) none)))
-        (run_fit o w (turns s k (find k m)) ks (touched o k a m) short.1 (none_rest (is_long a) (stored a) (first_long rest) none))
+      (short_fits k (find k m) a short.0 (not_long a (none_first (is_long a) (stored a) (first_long rest) none)))
+      (run_fit o w (turns s k (find k m)) ks (touched o k a m) short.1 (none_rest (is_long a) (stored a) (first_long rest) none))
 
   counts_were : (o : Order) (ks : List (List ℕ)) (m : List Pair) (ts : List Touch) (long : Option ℕ) → all_were o ts m ≡ true → all_were o (touches_by long ks m ts) m ≡ true
   counts_were o ks m ts None e = e
@@ -171,7 +171,7 @@ module _ {S : Type 0} (acts : S → List ℕ → Option (List ℕ) → Action) (
   keys_legal o w s ks m short =
       let ts : List Touch = run_touches acts turns o w s ks m in
       both (all_were o (touches_by (first_long ts) ks m ts) m) (list_all fits (touches_by (first_long ts) ks m ts))
-        (counts_were o ks m ts (first_long ts) (run_were o w s ks m)) (counts_fit ks m ts (first_long ts) short (run_fit o w s ks m short))
+      (counts_were o ks m ts (first_long ts) (run_were o w s ks m)) (counts_fit ks m ts (first_long ts) short (run_fit o w s ks m short))
 
   run_each : (o : Order) (w : Bool) (s : S) (ps m : List Pair) → Rising o ps → AllFound m ps → are_all (run_touches acts turns o w s (keys_of ps) m) ps ≡ true
   run_each o w s [] m rising found = refl
@@ -179,10 +179,10 @@ module _ {S : Type 0} (acts : S → List ℕ → Option (List ℕ) → Action) (
       let a : Action = counted w (acts s p.key (find p.key m)) in
       let next : List Pair = touched o p.key a m in
       let deeper : are_all (run_touches acts turns o w (turns s p.key (find p.key m)) (keys_of ps) next) ps ≡ true =
-        run_each o w (turns s p.key (find p.key m)) ps next rising.1
-          (found_past o p.key m next ps (λ j other. touched_other o j p.key a m other) rising.0 found.1) in
+      run_each o w (turns s p.key (find p.key m)) ps next rising.1
+      (found_past o p.key m next ps (λ j other. touched_other o j p.key a m other) rising.0 found.1) in
       let rest : (same_value (find p.key m) (Some p.value) && are_all (run_touches acts turns o w (turns s p.key (find p.key m)) (keys_of ps) next) ps) ≡ true =
-        both (same_value (find p.key m) (Some p.value)) (are_all (run_touches acts turns o w (turns s p.key (find p.key m)) (keys_of ps) next) ps) (found_same p m found.0) deeper in
+      both (same_value (find p.key m) (Some p.value)) (are_all (run_touches acts turns o w (turns s p.key (find p.key m)) (keys_of ps) next) ps) (found_same p m found.0) deeper in
       rw (same_itself p.key) rest
 
   counts_each : (m : List Pair) (ts : List Touch) (long : Option ℕ) → AllFound m m → are_all ts m ≡ true → are_all (touches_by long (keys_of m) m ts) m ≡ true
@@ -193,8 +193,8 @@ module _ {S : Type 0} (acts : S → List ℕ → Option (List ℕ) → Action) (
   each_legal o w s m rising held =
       let ts : List Touch = run_touches acts turns o w (turns s [] None) (keys_of m) m in
       both (are_all (touches_by (first_long ts) (keys_of m) m ts) m) (list_all fits (touches_by (first_long ts) (keys_of m) m ts))
-        (counts_each m ts (first_long ts) (all_found o m rising) (run_each o w (turns s [] None) m m rising (all_found o m rising)))
-        (counts_fit (keys_of m) m ts (first_long ts) (keys_short m held) (run_fit o w (turns s [] None) (keys_of m) m (keys_short m held)))
+      (counts_each m ts (first_long ts) (all_found o m rising) (run_each o w (turns s [] None) m m rising (all_found o m rising)))
+      (counts_fit (keys_of m) m ts (first_long ts) (keys_short m held) (run_fit o w (turns s [] None) (keys_of m) m (keys_short m held)))
 
   found_legal : (o : Order) (w : Bool) (s : S) (way : Way) (b : Bound) (m : List Pair) (r : Option Pair) → r ≡ named o way b m → AllHeld m
       → is_legal o m (found_entry acts turns w s way b r) ≡ true
@@ -202,9 +202,9 @@ module _ {S : Type 0} (acts : S → List ℕ → Option (List ℕ) → Action) (
   found_legal o w s way b m (Some p) e held =
       let a : Action = short (counted w (acts s p.key (Some p.value))) in
       let same : same_record (Some p) (named o way b m) ≡ true =
-        subst (λ r. same_record (Some p) r ≡ true) e (both (same_bytes p.key p.key) (same_bytes p.value p.value) (same_itself p.key) (same_itself p.value)) in
+      subst (λ r. same_record (Some p) r ≡ true) e (both (same_bytes p.key p.key) (same_bytes p.value p.value) (same_itself p.key) (same_itself p.value)) in
       let fit : fits (record { key = p.key; was = Some p.value; action = a }) ≡ true =
-        short_fits p.key (Some p.value) a (named_held o way b m p held (sym e)) (short_stores (counted w (acts s p.key (Some p.value)))) in
+      short_fits p.key (Some p.value) a (named_held o way b m p held (sym e)) (short_stores (counted w (acts s p.key (Some p.value)))) in
       rw (same, fit) refl
 
   pub next_legal : (o : Order) (w : Bool) (s : S) (way : Way) (b : Bound) (m : List Pair) → AllHeld m → is_legal o m (next_entry acts turns o w s way b m) ≡ true

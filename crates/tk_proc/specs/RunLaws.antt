@@ -24,4 +24,4 @@ module _ {S : Type 0} (acts : S → List ℕ → Option (List ℕ) → Action) (
   -- a run at one key changes that key alone
   pub record OneKeyChanges (o : Order) : Type 0 where
     pub changes : (writable : Bool) (s : S) (k : List ℕ) (m : List Pair) → Rising o m
-      → changes_of o m (keys_entry acts turns o writable s (k ∷ []) m) ≡ action_changes k (find k m) (short (counted writable (acts s k (find k m))))
+        → changes_of o m (keys_entry acts turns o writable s (k ∷ []) m) ≡ action_changes k (find k m) (short (counted writable (acts s k (find k m))))

@@ -9,3 +9,5 @@ pub use law::runs_are_legal;
 pub use processor::{RecordProcessor, ask};
 pub use ready::{Adder, Getter, Remover, Setter};
 
+#[cfg(test)]
+mod tests;

@@ -116,7 +116,7 @@ impl RecordProcessor for Setter {
 #[derive(Debug, Drop)]
 pub struct Adder {
     value: Bytes,
-    found: bool,
+    there: bool,
 }
 
 impl Model for Adder {
@@ -124,7 +124,7 @@ impl Model for Adder {
 
     ghost Value = { Adding };
 
-    ghost view = { λ a. record { value = a.value; found = a.found } };
+    ghost view = { λ a. record { value = a.value; found = a.there } };
 }
 
 impl Adder {
@@ -134,7 +134,7 @@ impl Adder {
     {
         Adder {
             value,
-            found: false,
+            there: false,
         }
     }
 
@@ -142,7 +142,7 @@ impl Adder {
     pub fn status(&self) -> Status
         ensures { (was : Option (List ℕ)) → is_some was ≡ self.now.found → result ≡ (set_reply self.now.value false was).status }
     {
-        if self.found {
+        if self.there {
             Status::Duplication
         } else {
             Status::Success
@@ -156,13 +156,13 @@ impl RecordProcessor for Adder {
     ghost turns = { λ a k was. record { value = a.value; found = is_some was } };
 
     fn process_full(&mut self, _: &[u8], _: &[u8]) -> Result<Action, NoMemory> {
-        self.found = true;
+        self.there = true;
         Ok(Action::Keep)
     }
 
     fn process_empty(&mut self, _: &[u8]) -> Result<Action, NoMemory> {
         let value = self.value.clone()?;
-        self.found = false;
+        self.there = false;
         Ok(Action::Put(value))
     }
 }
