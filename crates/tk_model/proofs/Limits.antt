@@ -1,12 +1,12 @@
 -- Keys and values stay within what a file can hold.
-use Rattle.std.proofs.Common.{◌≡◌, ℕ, ◌≤◌, Bool, true, false, ◌&&◌, List, [], ◌∷◌, ◌++◌, length, Option, Some, None, refl, sym, ap, subst, ◌∙◌, arith, if◌then◌else◌}
+use Rattle.std.proofs.Common.{◌≡◌, ℕ, ◌≤◌, Bool, true, false, ◌&&◌, List, [], ◌∷◌, ◌++◌, length, Option, Some, None, refl, arith, if◌then◌else◌}
 use Rattle.std.proofs.lemmas.Bool.Decides.{nat_tests}
 use Rattle.std.specs.Prelude.{nat_le, filter, not}
 use Rattle.std.specs.List.{list_all}
 use Rattle.std.specs.declared.cmp.Ordering.{Ordering}
 use Rattle.std.specs.declared.cmp.Ordering.TheVariants.{Less, Equal, Greater}
 use Rattle.tk_model.specs.Orders.{same_bytes, key_cmp}
-use Rattle.tk_model.specs.Records.{find, put, put_by, without, after_one, after, replay, AllFit, AllHeld, HasNoClear, IsClearAlone}
+use Rattle.tk_model.specs.Records.{find, put, put_by, without, after, AllFit, AllHeld, HasNoClear, IsClearAlone}
 use Rattle.tk_model.specs.Entries.{touched, all_touched, touches, tells, fits, stored, is_legal, after_entry, is_keep, written_keys, net_change, net_changes, changes_of}
 use Rattle.tk_model.specs.declared.record.Order.{Order}
 use Rattle.tk_model.specs.declared.record.Pair.{Pair}
@@ -75,9 +75,9 @@ all_touched_held o [] m e fit = fit
 all_touched_held o (t ∷ ts) m e fit =
     let here : fits t ≡ true = first_yes (fits t) (list_all fits ts) e in
     all_touched_held o ts (touched o t.key t.action m) (second_yes (fits t) (list_all fits ts) e)
-      (touched_held o t.key t.action m
-        (below (length t.key) 65535 (first_yes (nat_le (length t.key) 65535) (nat_le (stored t.action) 33554431) here))
-        (below (stored t.action) 33554431 (second_yes (nat_le (length t.key) 65535) (nat_le (stored t.action) 33554431) here)) fit)
+    (touched_held o t.key t.action m
+    (below (length t.key) 65535 (first_yes (nat_le (length t.key) 65535) (nat_le (stored t.action) 33554431) here))
+    (below (stored t.action) 33554431 (second_yes (nat_le (length t.key) 65535) (nat_le (stored t.action) 33554431) here)) fit)
 
 pub entry_held : (o : Order) (e : Entry) (m : List Pair) → is_legal o m e ≡ true → AllHeld m → AllHeld (after_entry o e m)
 entry_held o (entries.Proc ts) m l fit = all_touched_held o ts m (second_yes (tells o (entries.Proc ts) m) (list_all fits ts) l) fit
@@ -112,8 +112,8 @@ written_short (t ∷ ts) e =
     let here : fits t ≡ true = first_yes (fits t) (list_all fits ts) e in
     let deeper : AllShort (written_keys ts) = written_short ts (second_yes (fits t) (list_all fits ts) e) in
     pick_written (is_keep t.action) t.key (filter (λ i. not (same_bytes t.key i)) (written_keys ts)) (written_keys ts)
-      (below (length t.key) 65535 (first_yes (nat_le (length t.key) 65535) (nat_le (stored t.action) 33554431) here))
-      (filter_short (λ i. not (same_bytes t.key i)) (written_keys ts) deeper) deeper
+    (below (length t.key) 65535 (first_yes (nat_le (length t.key) 65535) (nat_le (stored t.action) 33554431) here))
+    (filter_short (λ i. not (same_bytes t.key i)) (written_keys ts) deeper) deeper
 
 net_fits : (k : List ℕ) (u v : Option (List ℕ)) (cs : List Change) → length k ≤ 65535 → ((w : List ℕ) → v ≡ Some w → length w ≤ 33554431) → AllFit cs × HasNoClear cs
     → AllFit (net_change k u v ++ cs) × HasNoClear (net_change k u v ++ cs)

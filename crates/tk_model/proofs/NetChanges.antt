@@ -1,14 +1,13 @@
 -- The net changes of a call lead to the records after it.
 use Rattle.std.proofs.Common.{◌≡◌, ℕ, Bool, true, false, not, ◌||◌, ◌⊎◌, inl, inr, List, [], ◌∷◌, ◌++◌, filter, Option, Some, None, refl, sym, ap, subst, ◌∙◌, if◌then◌else◌}
 use Rattle.tk_model.specs.Orders.{same_bytes}
-use Rattle.tk_model.specs.Records.{find, put, without, after_one, after, Rising}
+use Rattle.tk_model.specs.Records.{find, after_one, after, Rising}
 use Rattle.tk_model.specs.Entries.{touched, all_touched, touches, after_entry, is_keep, written_keys, net_change, net_changes, changes_of}
-use Rattle.tk_model.proofs.KeyOrders.{same_told, same_itself}
-use Rattle.tk_model.proofs.RecordLaws.{so_or_not, same_flipped, after_rising, all_touched_rising, find_put_same, find_put_other, find_without_same, find_without_other, same_records}
+use Rattle.tk_model.proofs.KeyOrders.{same_told}
+use Rattle.tk_model.proofs.RecordLaws.{so_or_not, after_rising, all_touched_rising, find_put_same, find_put_other, find_without_same, find_without_other, same_records}
 use Rattle.tk_model.specs.declared.record.Order.{Order}
 use Rattle.tk_model.specs.declared.record.Pair.{Pair}
 use Rattle.tk_model.specs.declared.record.Change.{Change}
-use Rattle.tk_model.specs.declared.record.Change.TheVariants as changes
 use Rattle.tk_model.specs.declared.record.Action.{Action}
 use Rattle.tk_model.specs.declared.record.Action.TheVariants as actions
 use Rattle.tk_model.specs.declared.record.Touch.{Touch}
@@ -53,7 +52,7 @@ first_changed : (o : Order) (j : List ℕ) (before end now : List Pair) (k : Lis
     → same_bytes k j ≡ true → find k (after o (net_change j (find j before) (find j end)) now) ≡ find k end
 first_changed o j before end now k rising at_j same =
     subst (λ i. find i (after o (net_change j (find j before) (find j end)) now) ≡ find i end) (sym (same_told k j same))
-      (net_same o j (find j before) (find j end) now rising at_j)
+    (net_same o j (find j before) (find j end) now rising at_j)
 
 next_between : (o : Order) (j : List ℕ) (before end now : List Pair) (k : List ℕ) → Rising o now → Between (find j before) (find j end) (find j now)
     → Between (find k before) (find k end) (find k now) → (same_bytes k j ≡ true) ⊎ (same_bytes k j ≡ false)
@@ -67,7 +66,7 @@ net_step : (o : Order) (j : List ℕ) (js : List (List ℕ)) (before end now : L
     → NetFound o (j ∷ js) before end now k
 net_step o j js before end now k rising at_j (inl same) deeper =
     let goes : after o (net_changes (j ∷ js) before end) now ≡ after o (net_changes js before end) (after o (net_change j (find j before) (find j end)) now) =
-      after_append o (net_change j (find j before) (find j end)) (net_changes js before end) now in
+    after_append o (net_change j (find j before) (find j end)) (net_changes js before end) now in
     let here = first_changed o j before end now k rising at_j same in
     record {
       written = λ _. ap (find k) goes ∙ elim (so_or_not (among k js)) [ inl e ↦ deeper.written e | inr e ↦ deeper.kept e ∙ here ];
@@ -75,7 +74,7 @@ net_step o j js before end now k rising at_j (inl same) deeper =
     }
 net_step o j js before end now k rising at_j (inr other) deeper =
     let goes : after o (net_changes (j ∷ js) before end) now ≡ after o (net_changes js before end) (after o (net_change j (find j before) (find j end)) now) =
-      after_append o (net_change j (find j before) (find j end)) (net_changes js before end) now in
+    after_append o (net_change j (find j before) (find j end)) (net_changes js before end) now in
     let rest : same_bytes k j || among k js ≡ among k js = rw other refl in
     record {
       written = λ e. ap (find k) goes ∙ deeper.written (sym rest ∙ e);
@@ -87,9 +86,9 @@ net_found : (o : Order) (ks : List (List ℕ)) (before end now : List Pair) → 
 net_found o [] before end now rising between k = record { written = λ e. absurd (cc); kept = λ _. refl }
 net_found o (j ∷ js) before end now rising between k =
     net_step o j js before end now k rising (between j) (so_or_not (same_bytes k j))
-      (net_found o js before end (after o (net_change j (find j before) (find j end)) now)
-        (after_rising o (net_change j (find j before) (find j end)) now rising)
-        (λ i. next_between o j before end now i rising (between j) (between i) (so_or_not (same_bytes i j))) k)
+    (net_found o js before end (after o (net_change j (find j before) (find j end)) now)
+    (after_rising o (net_change j (find j before) (find j end)) now rising)
+    (λ i. next_between o j before end now i rising (between j) (between i) (so_or_not (same_bytes i j))) k)
 
 -- ---- a key that no touch writes
 
@@ -134,7 +133,7 @@ unwritten_step o k t ts m (inr writes) deeper e =
     let none : same_bytes k t.key || among k (filter (λ i. not (same_bytes t.key i)) (written_keys ts)) ≡ false = sym (ap (among k) keys) ∙ e in
     let other : same_bytes k t.key ≡ false = first_no (same_bytes k t.key) (among k (filter (λ i. not (same_bytes t.key i)) (written_keys ts))) none in
     let rest : among k (written_keys ts) ≡ false =
-      sym (among_filtered k t.key (written_keys ts) other) ∙ second_no (same_bytes k t.key) (among k (filter (λ i. not (same_bytes t.key i)) (written_keys ts))) none in
+    sym (among_filtered k t.key (written_keys ts) other) ∙ second_no (same_bytes k t.key) (among k (filter (λ i. not (same_bytes t.key i)) (written_keys ts))) none in
     deeper (touched o t.key t.action m) rest ∙ touched_other o k t.key t.action m other
 
 pub unwritten : (o : Order) (k : List ℕ) (ts : List Touch) (m : List Pair) → among k (written_keys ts) ≡ false → find k (all_touched o ts m) ≡ find k m
@@ -146,10 +145,10 @@ unwritten o k (t ∷ ts) m e = unwritten_step o k t ts m (so_or_not (is_keep t.a
 net_reaches : (o : Order) (ts : List Touch) (m : List Pair) → Rising o m → after o (net_changes (written_keys ts) m (all_touched o ts m)) m ≡ all_touched o ts m
 net_reaches o ts m rising =
     same_records o (after o (net_changes (written_keys ts) m (all_touched o ts m)) m) (all_touched o ts m)
-      (after_rising o (net_changes (written_keys ts) m (all_touched o ts m)) m rising) (all_touched_rising o ts m rising)
-      (λ k.
-        let at_k = net_found o (written_keys ts) m (all_touched o ts m) m rising (λ j. inl refl) k in
-        elim (so_or_not (among k (written_keys ts))) [ inl e ↦ at_k.written e | inr e ↦ at_k.kept e ∙ sym (unwritten o k ts m e) ])
+    (after_rising o (net_changes (written_keys ts) m (all_touched o ts m)) m rising) (all_touched_rising o ts m rising)
+    (λ k.
+    let at_k = net_found o (written_keys ts) m (all_touched o ts m) m rising (λ j. inl refl) k in
+    elim (so_or_not (among k (written_keys ts))) [ inl e ↦ at_k.written e | inr e ↦ at_k.kept e ∙ sym (unwritten o k ts m e) ])
 
 pub changes_reach : (o : Order) (e : Entry) (m : List Pair) → Rising o m → after o (changes_of o m e) m ≡ after_entry o e m
 changes_reach o (entries.Proc ts) m rising = net_reaches o ts m rising

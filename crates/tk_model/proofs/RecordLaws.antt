@@ -1,6 +1,5 @@
 -- What changes keep of records in order, and what is found afterwards.
-use Rattle.std.proofs.Common.{◌≡◌, ℕ, Bool, true, false, ◌⊎◌, inl, inr, List, [], ◌∷◌, Option, Some, None, refl, sym, ap, subst, ◌∙◌, if◌then◌else◌}
-use Rattle.std.specs.Cmp.{IsTotalOrder}
+use Rattle.std.proofs.Common.{◌≡◌, ℕ, Bool, true, false, ◌⊎◌, inl, inr, List, [], ◌∷◌, Some, None, refl, sym, ap, subst, ◌∙◌, if◌then◌else◌}
 use Rattle.std.specs.Ordering.{is_eq, ordering_reverse}
 use Rattle.std.specs.declared.cmp.Ordering.{Ordering}
 use Rattle.std.specs.declared.cmp.Ordering.TheVariants.{Less, Equal, Greater}
@@ -197,20 +196,20 @@ heads_agree : (o : Order) (p q : Pair) (ms ns : List Pair) (c : Ordering) → ke
     → ((k : List ℕ) → find k (p ∷ ms) ≡ find k (q ∷ ns)) → (((k : List ℕ) → find k ms ≡ find k ns) → ms ≡ ns) → p ∷ ms ≡ q ∷ ns
 heads_agree o p q ms ns Less e rising_m rising_n found tails =
     absurd (some_none p.value
-      (sym (found_head p.key p ms (same_itself p.key)) ∙ found p.key
-        ∙ none_behind o p.key (q ∷ ns) (e, behind_earlier o p.key q.key ns e rising_n.0)))
+    (sym (found_head p.key p ms (same_itself p.key)) ∙ found p.key
+    ∙ none_behind o p.key (q ∷ ns) (e, behind_earlier o p.key q.key ns e rising_n.0)))
 heads_agree o p q ms ns Equal e rising_m rising_n found tails =
     let key : p.key ≡ q.key = keys_apart o p.key q.key e in
     let value : Some p.value ≡ Some q.value =
-      sym (found_head p.key p ms (same_itself p.key)) ∙ found p.key ∙ found_head p.key q ns (subst (λ j. same_bytes p.key j ≡ true) key (same_itself p.key)) in
+    sym (found_head p.key p ms (same_itself p.key)) ∙ found p.key ∙ found_head p.key q ns (subst (λ j. same_bytes p.key j ≡ true) key (same_itself p.key)) in
     let head : p ≡ q = same_pair p q key (cc) in
     let tail : ms ≡ ns = tails (λ k. tails_agree o p q ms ns k key rising_m.0 rising_n.0 (found k) (so_or_not (same_bytes k p.key))) in
     λ i. head i ∷ tail i
 heads_agree o p q ms ns Greater e rising_m rising_n found tails =
     let less : key_cmp o q.key p.key ≡ Less = flipped o p.key q.key Greater e in
     absurd (some_none q.value
-      (sym (found_head q.key q ns (same_itself q.key)) ∙ sym (found q.key)
-        ∙ none_behind o q.key (p ∷ ms) (less, behind_earlier o q.key p.key ms less rising_m.0)))
+    (sym (found_head q.key q ns (same_itself q.key)) ∙ sym (found q.key)
+    ∙ none_behind o q.key (p ∷ ms) (less, behind_earlier o q.key p.key ms less rising_m.0)))
 
 pub same_records : (o : Order) (m n : List Pair) → Rising o m → Rising o n → ((k : List ℕ) → find k m ≡ find k n) → m ≡ n
 same_records o [] [] rising_m rising_n found = refl

@@ -1,11 +1,11 @@
 -- The groups of a shard lead to the records of that shard.
-use Rattle.std.proofs.Common.{◌≡◌, ℕ, suc, ◌+◌, Bool, true, false, ◌⊎◌, inl, inr, List, [], ◌∷◌, ◌++◌, length, filter, Option, Some, None, refl, sym, ap, subst, ◌∙◌, arith, append_assoc, if◌then◌else◌}
+use Rattle.std.proofs.Common.{◌≡◌, ℕ, suc, ◌+◌, Bool, true, false, ◌⊎◌, inl, inr, List, [], ◌∷◌, ◌++◌, length, filter, Option, None, refl, sym, ap, subst, ◌∙◌, arith, append_assoc, if◌then◌else◌}
 use Rattle.std.proofs.lemmas.List.{append-nil}
 use Rattle.std.specs.declared.cmp.Ordering.TheVariants.{Less}
 use Rattle.tk_model.specs.Orders.{same_bytes, key_cmp}
 use Rattle.tk_model.specs.Records.{find, put, without, after_one, after, replay, AllBehind, Rising}
 use Rattle.tk_model.specs.Entries.{after_entry, replay_entries, changes_of, holds_key, shard_records, is_in_shard, group_of, parts}
-use Rattle.tk_model.proofs.KeyOrders.{same_told, same_itself}
+use Rattle.tk_model.proofs.KeyOrders.{same_told}
 use Rattle.tk_model.proofs.RecordLaws.{so_or_not, found_head, found_deeper, put_rising, without_rising, one_rising, entry_rising, find_put_same, find_put_other, find_without_same, find_without_other, same_records}
 use Rattle.tk_model.proofs.NetChanges.{changes_reach}
 use Rattle.tk_model.specs.declared.record.Order.{Order}
@@ -69,7 +69,7 @@ put_held : (o : Order) (s : ShardOf) (p : Pair) (m : List Pair) (k : List ℕ) �
 put_held o s p m k held (inl same) =
     let at_p : k ≡ p.key = same_told k p.key same in
     subst (λ j. find j (put o p (shard_records s m)) ≡ find j (shard_records s (put o p m))) (sym at_p)
-      (find_put_same o p (shard_records s m) ∙ sym (shard_find s p.key (put o p m) ∙ ap (λ b. only b (find p.key (put o p m))) held ∙ find_put_same o p m))
+    (find_put_same o p (shard_records s m) ∙ sym (shard_find s p.key (put o p m) ∙ ap (λ b. only b (find p.key (put o p m))) held ∙ find_put_same o p m))
 put_held o s p m k held (inr other) =
     find_put_other o k p (shard_records s m) other ∙ shard_find s k m
     ∙ sym (shard_find s k (put o p m) ∙ ap (only (holds_key s k)) (find_put_other o k p m other))
@@ -87,8 +87,8 @@ drop_held : (o : Order) (s : ShardOf) (j : List ℕ) (m : List Pair) (k : List �
 drop_held o s j m k rising (inl same) =
     let at_j : k ≡ j = same_told k j same in
     subst (λ i. find i (without j (shard_records s m)) ≡ find i (shard_records s (without j m))) (sym at_j)
-      (find_without_same o j (shard_records s m) (shard_rising o s m rising)
-        ∙ sym (shard_find s j (without j m) ∙ ap (only (holds_key s j)) (find_without_same o j m rising) ∙ sym (only_none (holds_key s j))))
+    (find_without_same o j (shard_records s m) (shard_rising o s m rising)
+    ∙ sym (shard_find s j (without j m) ∙ ap (only (holds_key s j)) (find_without_same o j m rising) ∙ sym (only_none (holds_key s j))))
 drop_held o s j m k rising (inr other) =
     find_without_other k j (shard_records s m) other ∙ shard_find s k m
     ∙ sym (shard_find s k (without j m) ∙ ap (only (holds_key s k)) (find_without_other k j m other))
@@ -105,16 +105,16 @@ one_in_shard : (o : Order) (s : ShardOf) (c : Change) (b : Bool) (m : List Pair)
     → (if b then after_one o c (shard_records s m) else shard_records s m) ≡ shard_records s (after_one o c m)
 one_in_shard o s (changes.Put p) true m rising held =
     same_records o (put o p (shard_records s m)) (shard_records s (put o p m)) (put_rising o p (shard_records s m) (shard_rising o s m rising))
-      (shard_rising o s (put o p m) (put_rising o p m rising)) (λ k. put_held o s p m k held (so_or_not (same_bytes k p.key)))
+    (shard_rising o s (put o p m) (put_rising o p m rising)) (λ k. put_held o s p m k held (so_or_not (same_bytes k p.key)))
 one_in_shard o s (changes.Put p) false m rising foreign =
     same_records o (shard_records s m) (shard_records s (put o p m)) (shard_rising o s m rising)
-      (shard_rising o s (put o p m) (put_rising o p m rising)) (λ k. put_foreign o s p m k foreign (so_or_not (same_bytes k p.key)))
+    (shard_rising o s (put o p m) (put_rising o p m rising)) (λ k. put_foreign o s p m k foreign (so_or_not (same_bytes k p.key)))
 one_in_shard o s (changes.Drop j) true m rising held =
     same_records o (without j (shard_records s m)) (shard_records s (without j m)) (without_rising o j (shard_records s m) (shard_rising o s m rising))
-      (shard_rising o s (without j m) (without_rising o j m rising)) (λ k. drop_held o s j m k rising (so_or_not (same_bytes k j)))
+    (shard_rising o s (without j m) (without_rising o j m rising)) (λ k. drop_held o s j m k rising (so_or_not (same_bytes k j)))
 one_in_shard o s (changes.Drop j) false m rising foreign =
     same_records o (shard_records s m) (shard_records s (without j m)) (shard_rising o s m rising)
-      (shard_rising o s (without j m) (without_rising o j m rising)) (λ k. drop_foreign o s j m k foreign (so_or_not (same_bytes k j)))
+    (shard_rising o s (without j m) (without_rising o j m rising)) (λ k. drop_foreign o s j m k foreign (so_or_not (same_bytes k j)))
 one_in_shard o s changes.Clear true m rising e = refl
 one_in_shard o s changes.Clear false m rising e = absurd (cc)
 
@@ -143,7 +143,7 @@ parts_reach o s n m [] rising = refl
 parts_reach o s n m (e ∷ es) rising =
     replay_group o n (filter (is_in_shard s) (changes_of o m e)) (parts o s (n + 1) (after_entry o e m) es) (shard_records s m)
     ∙ ap (replay o (parts o s (n + 1) (after_entry o e m) es))
-        (changes_in_shard o s (changes_of o m e) m rising ∙ ap (shard_records s) (changes_reach o e m rising))
+    (changes_in_shard o s (changes_of o m e) m rising ∙ ap (shard_records s) (changes_reach o e m rising))
     ∙ parts_reach o s (n + 1) (after_entry o e m) es (entry_rising o e m rising)
 
 -- the groups of one more call

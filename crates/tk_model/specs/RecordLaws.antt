@@ -33,7 +33,7 @@ pub record ChangesReach (o : Order) : Type 0 where
 pub record PartsReach (o : Order) : Type 0 where
   pub shard : (s : ShardOf) (n : ℕ) (m : List Pair) (es : List Entry) → Rising o m → replay o (parts o s n m es) (shard_records s m) ≡ shard_records s (replay_entries o es m)
   pub more : (s : ShardOf) (n : ℕ) (m : List Pair) (es : List Entry) (e : Entry)
-    → parts o s n m (es ++ e ∷ []) ≡ parts o s n m es ++ group_of (n + length es) (filter (is_in_shard s) (changes_of o (replay_entries o es m) e))
+      → parts o s n m (es ++ e ∷ []) ≡ parts o s n m es ++ group_of (n + length es) (filter (is_in_shard s) (changes_of o (replay_entries o es m) e))
 
 -- keys and values stay within what a file can hold, and a clear is alone
 pub record KeepsLimits (o : Order) : Type 0 where
