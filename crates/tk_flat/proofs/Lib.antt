@@ -1,2 +1,4 @@
 pub mod Fields
+pub mod Lines
 pub mod Lists
+pub mod Records

@@ -121,7 +121,7 @@ pub fn unescape(alloc: Global, field: &[u8]) -> Result<Option<Bytes>, NoMemory>
     let mut out = Bytes::with_capacity(alloc, field.len())?;
     let mut rest = field;
     loop {
-        let (run, Some(escape)) = cut(b'\\', rest) else {
+        let Some((run, escape)) = cut(b'\\', rest) else {
             out.extend(rest)?;
             return Ok(Some(out));
         };

@@ -1,7 +1,7 @@
 ghost use Rattle.std.specs.Prelude.{◌≡◌, ◌+◌, ◌<◌, ◌++◌, ℕ, List, All, drop, length, IfErr, IfOk, IfNone, IfSome, OnOk, OnErr};
 ghost use Rattle.tk_model.specs.declared.record.Pair.{Pair};
 ghost use Rattle.tk_flat.specs.Errors.{Answers, Extends, Names};
-ghost use Rattle.tk_flat.specs.Flat.{BeginsWith, BeginsWithNone, IsFault, IsFlat, IsFlatText, flat_text, record_text};
+ghost use Rattle.tk_flat.specs.Flat.{BeginsWith, BeginsWithNone, IsFault, IsFlat, IsFlatText, flat_text, lengths_text, record_text};
 
 use crate::TextError;
 use std::alloc::Global;
@@ -60,15 +60,24 @@ pub fn read_flat(alloc: Global, bytes: &[u8]) -> Result<PairList, TextError>
     Ok(pairs)
 }
 
+#[tactic(auto, unfolding(crate::specs::Flat::lengths_text))]
+fn lengths_text(pair: &Pair) -> [u8; 6]
+    requires { IsFlat pair.now }
+    ensures { result ≡ lengths_text pair.now }
+{
+    let k = (pair.key.len() as u16).to_be_bytes();
+    let v = (pair.value.len() as u32).to_be_bytes();
+    [k[0], k[1], v[0], v[1], v[2], v[3]]
+}
+
+#[tactic(auto, using(crate::proofs::Lists::Extends_same, crate::proofs::Lists::Extends_by), unfolding(crate::specs::Flat::record_text))]
 /// Puts a record at the end.
 pub fn write_record(pair: &Pair, out: &mut Bytes) -> Result<(), NoMemory>
     requires { IsFlat pair.now }
     ensures ok { OnOk result (out.new ≡ out.old ++ record_text pair.now) }
     ensures err { OnErr result (Extends out.old out.new) }
 {
-    let k = (pair.key.len() as u16).to_be_bytes();
-    let v = (pair.value.len() as u32).to_be_bytes();
-    out.extend(&[k[0], k[1], v[0], v[1], v[2], v[3]])?;
+    out.extend(&lengths_text(pair))?;
     out.extend(pair.key.as_slice())?;
     out.extend(pair.value.as_slice())
 }

@@ -1,7 +1,7 @@
-ghost use Rattle.std.specs.Prelude.{◌≡◌, ◌≢◌, ◌<◌, ◌++◌, ◌∷◌, [], ℕ, List, length, map, true, IfErr, IfOk, OnOk, OnErr, Some};
+ghost use Rattle.std.specs.Prelude.{◌≡◌, ◌≢◌, ◌<◌, ◌++◌, ◌∷◌, [], ℕ, List, All, length, map, true, IfErr, IfOk, OnOk, OnErr, Some};
 ghost use Rattle.tk_model.specs.declared.record.Pair.{Pair};
 ghost use Rattle.tk_flat.specs.Errors.{Extends, Names};
-ghost use Rattle.tk_flat.specs.Tsv.{IsFirstBadLine, IsTsv, is_small, line_body, line_text, lines_of, pair_in, tsv_text};
+ghost use Rattle.tk_flat.specs.Tsv.{IsFirstBadLine, IsSmall, IsTsv, line_body, line_text, lines_of, pair_in, tsv_text};
 
 use crate::TextError;
 use crate::field::{escape, unescape};
@@ -19,19 +19,18 @@ pub fn next_line(bytes: &[u8]) -> (&[u8], &[u8])
     ensures line { lines_of bytes.now ≡ result.0.now ∷ lines_of result.1.now }
     ensures shorter { length result.1.now < length bytes.now }
 {
-    let (line, behind) = cut(b'\n', bytes);
-    (line, behind.unwrap_or(&[]))
+    cut(b'\n', bytes).unwrap_or((bytes, &[]))
 }
 
 fn read_line(alloc: Global, line: &[u8]) -> Result<Option<Pair>, NoMemory>
     ensures { IfOk result (λ pair. pair ≡ pair_in line.now) }
 {
-    let (key, Some(behind)) = cut(b'\t', line) else {
+    let Some((key, value)) = cut(b'\t', line) else {
         return Ok(None);
     };
-    let (value, None) = cut(b'\t', behind) else {
+    if cut(b'\t', value).is_some() {
         return Ok(None);
-    };
+    }
     let Some(key) = unescape(alloc, key)? else {
         return Ok(None);
     };
@@ -65,7 +64,7 @@ pub fn read_tsv(alloc: Global, bytes: &[u8]) -> Result<PairList, TextError>
 fn write_line(pair: &Pair, out: &mut Bytes) -> Result<(), NoMemory>
     ensures ok { OnOk result (out.new ≡ out.old ++ line_text pair.now) }
     ensures err { OnErr result (Extends out.old out.new) }
-    ensures back { is_small pair.now.key pair.now.value ≡ true → pair_in (line_body pair.now) ≡ Some pair.now }
+    ensures back { OnOk result (IsSmall pair.now → pair_in (line_body pair.now) ≡ Some pair.now) }
 {
     escape(pair.key.as_slice(), out)?;
     out.push(b'\t')?;
@@ -77,6 +76,7 @@ fn write_line(pair: &Pair, out: &mut Bytes) -> Result<(), NoMemory>
 pub fn write_tsv(pairs: &PairList, out: &mut Bytes) -> Result<(), NoMemory>
     ensures ok { OnOk result (out.new ≡ out.old ++ tsv_text pairs.now) }
     ensures err { OnErr result (Extends out.old out.new) }
+    ensures back { OnOk result (All IsSmall pairs.now → IsTsv (tsv_text pairs.now) pairs.now) }
 {
     for pair in pairs.as_slice() {
         write_line(pair, out)?;
