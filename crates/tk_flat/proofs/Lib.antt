@@ -1,4 +1,5 @@
 pub mod Fields
+pub mod Judged
 pub mod Lines
 pub mod Lists
 pub mod Records

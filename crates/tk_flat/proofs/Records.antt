@@ -1,10 +1,11 @@
 -- Records in a flat text.
-use Rattle.std.proofs.Common.{◌≡◌, ℕ, zero, suc, lit<, ◌<◌, ◌≤◌, ◌+◌, ◌^◌, List, [], ◌∷◌, ◌++◌, length, get_or, take, drop, refl, sym, ap, ◌∙◌, subst, append_assoc, length-append, arith}
+use Rattle.std.proofs.Common.{◌≡◌, ℕ, zero, suc, lit<, ◌<◌, ◌≤◌, ◌+◌, ◌^◌, List, [], ◌∷◌, ◌++◌, length, get_or, take, drop, refl, sym, ap, ◌∙◌, subst, append_assoc, length-append, arith, All}
 use Rattle.std.specs.Int.{w16, w32, to_be_bytes, from_be_bytes}
-use Rattle.std.proofs.lemmas.List.{drop_at, drop-drop}
+use Rattle.std.proofs.lemmas.List.{drop_at, drop-drop, drop_all, length-drop, append-nil, flat_map_more}
+use Rattle.std.proofs.lemmas.List.Elements.{All-nil, All-push}
 use Rattle.std.proofs.lemmas.Nat.{from_be_bytes-to_be_bytes_2, from_be_bytes-to_be_bytes_4, be_bytes_2, be_bytes_4}
 use Rattle.tk_model.specs.declared.record.Pair.{Pair}
-use Rattle.tk_flat.specs.Flat.{IsFlat, BeginsWith, lengths_text, record_text}
+use Rattle.tk_flat.specs.Flat.{IsFlat, IsFlatText, IsFault, no_record, BeginsWith, BeginsWithNone, flat_word, flat_text, lengths_text, record_text}
 
 -- the two numbers at the front
 abbrev pub key_length : List ℕ → ℕ
@@ -73,3 +74,53 @@ found text key value behind fit long k v key_fits value_fits first second =
       fits = record { key_fits = key_fits; value_fits = value_fits };
       spelled = spell text pair behind (drop (6 + (length key + length value)) text) (front_of text pair fit long k v) first (second ∙ ap (λ (l : List ℕ). value ++ l) after);
     }
+
+-- the records before this place were read
+pub record ReadSoFar (text : List ℕ) (place : ℕ) (pairs : List Pair) : Type 0 where
+  pub fit : All IsFlat pairs
+  pub within : place ≤ length text
+  pub spelled : text ≡ flat_text pairs ++ drop place text
+  pub here : place ≡ length (flat_text pairs)
+
+pub read_none : (text : List ℕ) → text ≡ flat_word ++ drop 8 text → ReadSoFar text 8 []
+unfolding flat_text
+read_none text is =
+    record {
+      fit = All-nil IsFlat;
+      within = omega (arith, ap length is, length-append flat_word (drop 8 text));
+      spelled = is;
+      here = refl;
+    }
+
+flat_text-push : (pairs : List Pair) (pair : Pair) → flat_text (pairs ++ pair ∷ []) ≡ flat_text pairs ++ record_text pair
+unfolding flat_text
+flat_text-push pairs pair = sym (flat_map_more record_text flat_word pairs pair)
+
+pub read_more : (text : List ℕ) (place next : ℕ) (pairs : List Pair) (pair : Pair) → ReadSoFar text place pairs → next ≡ place + (6 + (length pair.key + length pair.value)) → BeginsWith (drop place text) pair (drop (6 + (length pair.key + length pair.value)) (drop place text)) → ReadSoFar text next (pairs ++ pair ∷ [])
+read_more text place next pairs pair so_far is begins =
+    let n : ℕ = 6 + (length pair.key + length pair.value) in
+    let rest : drop n (drop place text) ≡ drop next text = drop-drop n place text ∙ ap (λ (k : ℕ). drop k text) (sym is) in
+    let behind : drop place text ≡ record_text pair ++ drop next text = begins.spelled ∙ ap (λ (l : List ℕ). record_text pair ++ l) rest in
+    record {
+      fit = All-push IsFlat pairs pair so_far.fit begins.fits;
+      within = omega (arith, so_far.within, length-drop place text, ap length begins.spelled, length-append (record_text pair) (drop n (drop place text)), length-record pair);
+      spelled = so_far.spelled ∙ ap (λ (l : List ℕ). flat_text pairs ++ l) behind ∙ sym (append_assoc (flat_text pairs) (record_text pair) (drop next text)) ∙ ap (λ (l : List ℕ). l ++ drop next text) (sym (flat_text-push pairs pair));
+      here = is ∙ omega (arith, so_far.here, ap length (flat_text-push pairs pair), length-append (flat_text pairs) (record_text pair), length-record pair);
+    }
+
+pub read_all : (text : List ℕ) (place : ℕ) (pairs : List Pair) → ReadSoFar text place pairs → length text ≤ place → IsFlatText text pairs
+read_all text place pairs so_far end =
+    record {
+      fit = so_far.fit;
+      spelled = so_far.spelled ∙ ap (λ (l : List ℕ). flat_text pairs ++ l) (drop_all place text end) ∙ append-nil (flat_text pairs);
+    }
+
+pub read_until : (text : List ℕ) (place : ℕ) (pairs : List Pair) → ReadSoFar text place pairs → place < length text → BeginsWithNone (drop place text) → IsFault text place
+read_until text place pairs so_far more none =
+    no_record text place pairs (drop place text) (record {
+      fit = so_far.fit;
+      spelled = so_far.spelled;
+      here = so_far.here;
+      more = λ is. absurd (omega (arith, length-drop place text, ap length is));
+      none = none;
+    })
