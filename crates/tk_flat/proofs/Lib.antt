@@ -1,3 +1,4 @@
+pub mod Escaped
 pub mod Fields
 pub mod Judged
 pub mod Lines

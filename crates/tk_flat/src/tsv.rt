@@ -13,24 +13,29 @@ const MAX_KEY: usize = 65_535;
 
 const MAX_VALUE: usize = 16_777_215;
 
+#[tactic(auto, using(crate::proofs::Lines::line_at, crate::proofs::Lines::line_last))]
 /// The first line, without its LF, and the bytes behind it. The last LF may be missing.
 pub fn next_line(bytes: &[u8]) -> (&[u8], &[u8])
     requires { 0 < length bytes.now }
     ensures line { lines_of bytes.now ≡ result.0.now ∷ lines_of result.1.now }
     ensures shorter { length result.1.now < length bytes.now }
 {
-    cut(b'\n', bytes).unwrap_or((bytes, &[]))
+    match cut(b'\n', bytes) {
+        Some((line, behind)) => (line, behind),
+        None => (bytes, &[]),
+    }
 }
 
+#[tactic(auto, using(crate::proofs::Lines::fields_read))]
 fn read_line(alloc: Global, line: &[u8]) -> Result<Option<Pair>, NoMemory>
     ensures { IfOk result (λ pair. pair ≡ pair_in line.now) }
 {
     let Some((key, value)) = cut(b'\t', line) else {
         return Ok(None);
     };
-    if cut(b'\t', value).is_some() {
+    let None = cut(b'\t', value) else {
         return Ok(None);
-    }
+    };
     let Some(key) = unescape(alloc, key)? else {
         return Ok(None);
     };
