@@ -1,10 +1,10 @@
 -- Writing of fields, and reading what was written.
-use Rattle.std.proofs.Common.{◌≡◌, ℕ, zero, suc, ◌<◌, ◌≤◌, ◌+◌, ◌*◌, ◌/◌, ◌%◌, Bool, true, false, cond, eqb, nat_lt, nat_le, ◌||◌, List, [], ◌∷◌, ◌++◌, length, get_or, Option, Some, None, All, ◌⊎◌, inl, inr, refl, sym, ap, ◌∙◌, subst, append_assoc, arith}
+use Rattle.std.proofs.Common.{◌≡◌, ℕ, suc, ◌<◌, ◌+◌, ◌*◌, ◌/◌, ◌%◌, Bool, true, false, cond, eqb, nat_lt, nat_le, ◌||◌, List, [], ◌∷◌, ◌++◌, get_or, Option, Some, None, All, refl, sym, ap, ◌∙◌, append_assoc, arith}
 use Rattle.std.specs.List.{AllByRecursion, flat_map}
-use Rattle.std.specs.Char.{digit_value, digit_char}
+use Rattle.std.specs.Char.{digit_char}
 use Rattle.std.proofs.lemmas.List.{append-nil}
 use Rattle.std.proofs.lemmas.List.Elements.{recursion_from_All}
-use Rattle.std.proofs.lemmas.Bool.{cases_Bool, cases_lt, or_parts, eqb-true, ltb-false, lt-ltb}
+use Rattle.std.proofs.lemmas.Bool.{or_parts, eqb-true, lt-ltb}
 use Rattle.std.proofs.lemmas.Str.{digit_value-digit_char}
 use Rattle.tk_flat.specs.Errors.{Extends}
 use Rattle.tk_flat.specs.Escapes.{needs_escape, hex_escape, escape_text, byte_text, escaped, followed, unescaped, after_backslash, first_digit, second_digit}

@@ -1,5 +1,5 @@
 -- A text is read in one way, so the answer of a reader is the only one.
-use Rattle.std.proofs.Common.{◌≡◌, ◌≢◌, ℕ, zero, suc, ◌<◌, ◌≤◌, ◌+◌, List, [], ◌∷◌, ◌++◌, length, take, drop, Result, Ok, Err, IfOk, IfErr, All, refl, sym, ap, ◌∙◌, subst, inl, inr, append_assoc, length-append, arith}
+use Rattle.std.proofs.Common.{◌≡◌, ◌≢◌, ℕ, List, [], ◌∷◌, ◌++◌, length, take, drop, Result, Ok, Err, IfOk, IfErr, All, refl, sym, ap, ◌∙◌, inl, inr, append_assoc, arith}
 use Rattle.std.specs.List.{AllByRecursion, flat_map}
 use Rattle.std.proofs.lemmas.List.{take_at, drop_at, append-nil}
 use Rattle.std.proofs.lemmas.List.Elements.{recursion_from_All}
@@ -7,7 +7,7 @@ use Rattle.tk_model.specs.declared.record.Pair.{Pair}
 use Rattle.tk_flat.specs.declared.error.TextError.{TextError}
 use Rattle.tk_flat.specs.declared.error.TextError.TheVariants.{At, NoMemory}
 use Rattle.tk_flat.specs.Errors.{Answers, Names}
-use Rattle.tk_flat.specs.Flat.{IsFlat, IsFlatText, IsFault, no_word, no_record, BreaksAfter, BeginsWith, BeginsWithNone, flat_word, flat_text, lengths_text, record_text}
+use Rattle.tk_flat.specs.Flat.{IsFlat, IsFlatText, IsFault, no_word, no_record, BeginsWithNone, flat_word, flat_text, lengths_text, record_text}
 use Rattle.tk_flat.proofs.Records.{lengths_of, length-record}
 
 -- two lists joined, by the length of the first

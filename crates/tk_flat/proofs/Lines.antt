@@ -1,9 +1,8 @@
 -- Reading and writing of lines, part by part.
-use Rattle.std.proofs.Common.{◌≡◌, ℕ, ◌<◌, ◌+◌, Bool, true, false, cond, eqb, List, [], ◌∷◌, ◌++◌, length, map, Option, Some, None, refl, sym, ap, ◌∙◌, append_assoc, All, arith}
+use Rattle.std.proofs.Common.{◌≡◌, ℕ, ◌<◌, Bool, true, false, cond, eqb, List, [], ◌∷◌, ◌++◌, length, Option, Some, None, refl, ap, ◌∙◌, All, arith}
 use Rattle.std.specs.List.{AllByRecursion, onto_first, slice_split}
 use Rattle.std.proofs.lemmas.List.Splits.{slice_split_at, slice_split_none}
 use Rattle.std.proofs.lemmas.List.Elements.{recursion_from_All}
-use Rattle.tk_model.specs.declared.record.Pair.{Pair}
 use Rattle.tk_flat.specs.Escapes.{unescaped}
 use Rattle.tk_flat.specs.Tsv.{lines_of, pair_of, pair_from, pair_in, is_tab}
 

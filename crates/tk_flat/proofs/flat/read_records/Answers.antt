@@ -1,7 +1,7 @@
-use Rattle.std.proofs.Common.{◌≡◌, ◌+◌, ◌++◌, ◌∷◌, [], List, ℕ, refl, sym, subst, length, drop}
+use Rattle.std.proofs.Common.{◌+◌, ◌++◌, ◌∷◌, [], ℕ, refl, length, drop}
 use Rattle.std.proofs.lemmas.List.{take_rest}
 use Rattle.tk_model.specs.declared.record.Pair.{Pair}
-use Rattle.tk_flat.specs.Flat.{no_word, BeginsWith, BeginsWithNone}
+use Rattle.tk_flat.specs.Flat.{no_word, BeginsWith}
 use Rattle.tk_flat.proofs.Records.{ReadSoFar, read_none, read_more, read_until}
 use Rattle.tk_flat.proofs.flat.read_records.Goals as goal
 

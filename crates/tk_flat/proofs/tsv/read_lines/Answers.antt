@@ -1,4 +1,4 @@
-use Rattle.std.proofs.Common.{◌≡◌, ◌+◌, ◌∙◌, sym, ap, ℕ}
+use Rattle.std.proofs.Common.{◌+◌, ◌∙◌, sym, ap, ℕ}
 use Rattle.tk_flat.proofs.TsvJudged.{lines_more, lines_until}
 use Rattle.tk_flat.proofs.tsv.read_lines.Goals as goal
 

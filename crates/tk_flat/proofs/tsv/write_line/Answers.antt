@@ -1,4 +1,4 @@
-use Rattle.std.proofs.Common.{◌≡◌, Some, sym, subst, List, ℕ}
+use Rattle.std.proofs.Common.{◌≡◌, Some, subst, List, ℕ}
 use Rattle.tk_flat.specs.Escapes.{escaped, unescaped}
 use Rattle.tk_flat.proofs.LinesBack.{line-back}
 use Rattle.tk_flat.proofs.tsv.write_line.Goals as goal

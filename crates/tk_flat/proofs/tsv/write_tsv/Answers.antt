@@ -1,8 +1,7 @@
-use Rattle.std.proofs.Common.{◌≡◌, sym, subst, take, List, ℕ, ◌<◌, length, slice_index_or}
+use Rattle.std.proofs.Common.{subst, List, ℕ, ◌<◌, length, slice_index_or}
 use Rattle.std.proofs.lemmas.List.{take_all}
 use Rattle.std.proofs.lemmas.List.Elements.{All-nil, All-more}
 use Rattle.tk_model.specs.declared.record.Pair.{Pair}
-use Rattle.tk_flat.specs.Tsv.{IsSmall, IsTsv, tsv_text}
 use Rattle.tk_flat.proofs.LinesBack.{IsReadBack, tsv_back, tsv_text-nil, tsv_text-more}
 use Rattle.tk_flat.proofs.tsv.write_tsv.Goals as goal
 
