@@ -1,9 +1,11 @@
 -- Reading and writing of fields, part by part.
-use Rattle.std.proofs.Common.{◌≡◌, ℕ, ◌<◌, ◌+◌, ◌*◌, ◌/◌, ◌%◌, Bool, true, false, cond, eqb, nat_lt, List, [], ◌∷◌, ◌++◌, length, get_or, Option, Some, None, refl, sym, ap, ◌∙◌, append_assoc, arith}
+use Rattle.std.proofs.Common.{◌≡◌, ℕ, ◌<◌, Bool, true, false, cond, eqb, nat_lt, List, [], ◌∷◌, ◌++◌, length, Option, Some, None, refl, sym, ap, ◌∙◌, append_assoc, All, arith}
 use Rattle.std.specs.Option.{option_map}
 use Rattle.std.specs.Char.{digit_value}
 use Rattle.std.specs.List.{AllByRecursion}
-use Rattle.tk_flat.specs.Escapes.{escaped, followed, unescaped, after_backslash, first_digit, second_digit}
+use Rattle.std.proofs.lemmas.List.{append-nil}
+use Rattle.std.proofs.lemmas.List.Elements.{recursion_from_All}
+use Rattle.tk_flat.specs.Escapes.{followed, unescaped, after_backslash, first_digit, second_digit}
 
 cond-same : (t : Bool) → cond t (second_digit 0 []) None ≡ None
 unfolding unescaped
@@ -45,8 +47,33 @@ first_digit-short [] short = refl
 first_digit-short (d ∷ []) short = cond-same (nat_lt (digit_value d) 16)
 first_digit-short (d ∷ e ∷ xs) short = absurd (omega arith)
 
--- from the old bytes on, all is written but the rest
-pub record Written (old out all rest : List ℕ) : Type 0 where
-  pub text : List ℕ
-  pub appended : out ≡ old ++ text
-  pub split : escaped all ≡ text ++ escaped rest
+-- no byte of the run is a backslash
+abbrev pub IsRun : List ℕ → Type 0
+IsRun run = All (λ (b : ℕ). eqb b 92 ≡ false) run
+
+pub unescape-end : (field out rest end : List ℕ) → unescaped field ≡ prefixed out (unescaped rest) → IsRun rest → end ≡ out ++ rest → unescaped field ≡ Some end
+unfolding unescaped
+unescape-end field out rest end so_far plain is =
+    so_far
+    ∙ ap (λ (o : Option (List ℕ)). prefixed out o) (ap (λ (l : List ℕ). unescaped l) (sym (append-nil rest)) ∙ unescaped-run rest [] (recursion_from_All (λ (b : ℕ). eqb b 92 ≡ false) rest plain))
+    ∙ ap (λ (l : List ℕ). Some (out ++ l)) (append-nil rest)
+    ∙ ap (λ (l : List ℕ). Some l) (sym is)
+
+behind_run : (rest run escape : List ℕ) → rest ≡ run ++ 92 ∷ escape → IsRun run → unescaped rest ≡ prefixed run (after_backslash escape)
+unfolding unescaped
+behind_run rest run escape is plain =
+    ap (λ (l : List ℕ). unescaped l) is ∙ unescaped-run run (92 ∷ escape) (recursion_from_All (λ (b : ℕ). eqb b 92 ≡ false) run plain)
+
+pub unescape-none : (field out rest run escape : List ℕ) → unescaped field ≡ prefixed out (unescaped rest) → rest ≡ run ++ 92 ∷ escape → IsRun run → after_backslash escape ≡ None → unescaped field ≡ None
+unescape-none field out rest run escape so_far is plain none =
+    so_far ∙ ap (λ (o : Option (List ℕ)). prefixed out o) (behind_run rest run escape is plain ∙ ap (λ (o : Option (List ℕ)). prefixed run o) none)
+
+pub unescape-more : (field out rest run escape behind next : List ℕ) (b : ℕ) → unescaped field ≡ prefixed out (unescaped rest) → rest ≡ run ++ 92 ∷ escape → IsRun run → after_backslash escape ≡ followed b (unescaped behind) → next ≡ (out ++ run) ++ b ∷ [] → unescaped field ≡ prefixed next (unescaped behind)
+unescape-more field out rest run escape behind next b so_far is plain found end =
+    so_far
+    ∙ ap (λ (o : Option (List ℕ)). prefixed out o) (behind_run rest run escape is plain ∙ ap (λ (o : Option (List ℕ)). prefixed run o) found)
+    ∙ prefixed-prefixed out run (followed b (unescaped behind))
+    ∙ prefixed-followed (out ++ run) b (unescaped behind)
+    ∙ ap (λ (l : List ℕ). prefixed l (unescaped behind)) (sym end)
+
+pub ruleset unescape_steps = (unescape-end, unescape-none, unescape-more)

@@ -1,5 +1,5 @@
 -- Flat text: a word, then the records one after another.
-use Rattle.std.specs.Prelude.{◌≡◌, ◌≢◌, ℕ, ◌≤◌, List, [], ◌∷◌, ◌++◌, length, All, Result, Ok, Err}
+use Rattle.std.specs.Prelude.{◌≡◌, ◌≢◌, ℕ, ◌≤◌, List, [], ◌∷◌, ◌++◌, length, All}
 use Rattle.std.specs.List.{flat_map}
 use Rattle.std.specs.Int.{w16, w32, to_be_bytes}
 use Rattle.tk_model.specs.declared.record.Pair.{Pair}
@@ -13,9 +13,13 @@ pub record IsFlat (pair : Pair) : Type 0 where
   pub key_fits : length pair.key ≤ 65535
   pub value_fits : length pair.value ≤ 33554431
 
+-- the lengths of key and value
+unfoldable pub lengths_text : Pair → List ℕ
+lengths_text pair = to_be_bytes w16 (length pair.key) ++ to_be_bytes w32 (length pair.value)
+
 -- the lengths of key and value, the key, and the value
 unfoldable pub record_text : Pair → List ℕ
-record_text pair = (to_be_bytes w16 (length pair.key) ++ to_be_bytes w32 (length pair.value)) ++ (pair.key ++ pair.value)
+record_text pair = lengths_text pair ++ (pair.key ++ pair.value)
 
 unfoldable pub flat_text : List Pair → List ℕ
 flat_text pairs = flat_word ++ flat_map record_text pairs

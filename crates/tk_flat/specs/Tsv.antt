@@ -1,5 +1,5 @@
 -- Lines of fields: a record is key, TAB, value.
-use Rattle.std.specs.Prelude.{◌≡◌, ℕ, ◌≤◌, ◌-◌, Bool, ◌&&◌, ◌==◌, nat_le, if◌then◌else◌, List, [], ◌∷◌, ◌++◌, length, map, position, Option, None, Some, is_none}
+use Rattle.std.specs.Prelude.{◌≡◌, ℕ, ◌≤◌, ◌-◌, Bool, true, ◌&&◌, ◌==◌, nat_le, if◌then◌else◌, List, [], ◌∷◌, ◌++◌, length, map, position, Option, None, Some, is_none}
 use Rattle.std.specs.List.{flat_map, slice_split, onto_first}
 use Rattle.tk_model.specs.declared.record.Pair.{Pair}
 use Rattle.tk_flat.specs.Escapes.{escaped, unescaped}
@@ -22,6 +22,9 @@ fields_of line = slice_split is_tab line
 -- the longest key, and the longest value that a call stores
 abbrev pub is_small : (key value : List ℕ) → Bool
 is_small key value = nat_le (length key) 65535 && nat_le (length value) 16777215
+
+abbrev pub IsSmall : Pair → Type 0
+IsSmall pair = is_small pair.key pair.value ≡ true
 
 abbrev pub pair_from : Option (List ℕ) → Option (List ℕ) → Option Pair
 pair_from None value = None

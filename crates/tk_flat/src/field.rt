@@ -57,6 +57,21 @@ fn plain_front(bytes: &[u8]) -> usize
     bytes.len()
 }
 
+/// The bytes before the first that is not printed as it is, that byte, and those behind it.
+fn cut_run(bytes: &[u8]) -> Option<(&[u8], u8, &[u8])>
+    ensures found { IfSome result (λ r. bytes.now ≡ r.0.now ++ r.1 ∷ r.2.now) }
+    ensures plain { IfSome result (λ r. All (λ b. needs_escape b ≡ false) r.0.now) }
+    ensures escaped { IfSome result (λ r. needs_escape r.1 ≡ true) }
+    ensures none { IfNone result (All (λ b. needs_escape b ≡ false) bytes.now) }
+{
+    let at = plain_front(bytes);
+    if at == bytes.len() {
+        return None;
+    }
+    Some((&bytes[..at], bytes[at], &bytes[at + 1..]))
+}
+
+#[tactic(auto, using(crate::proofs::Escaped::escape_steps))]
 /// Puts bytes at the end as one field.
 pub fn escape(bytes: &[u8], out: &mut Bytes) -> Result<(), NoMemory>
     ensures ok { OnOk result (out.new ≡ out.old ++ escaped bytes.now) }
@@ -65,12 +80,12 @@ pub fn escape(bytes: &[u8], out: &mut Bytes) -> Result<(), NoMemory>
 {
     let mut rest = bytes;
     loop {
-        let (run, others) = rest.split_at(plain_front(rest));
-        out.extend(run)?;
-        let Some((byte, behind)) = others.split_first() else {
+        let Some((run, byte, behind)) = cut_run(rest) else {
+            out.extend(rest)?;
             return Ok(());
         };
-        put_escape(*byte, out)?;
+        out.extend(run)?;
+        put_escape(byte, out)?;
         rest = behind;
     }
 }
@@ -114,6 +129,7 @@ fn read_escape(bytes: &[u8]) -> Option<(u8, &[u8])>
     }
 }
 
+#[tactic(auto, using(crate::proofs::Fields::unescape_steps))]
 /// The bytes of a field; none where it holds a backslash that begins no escape.
 pub fn unescape(alloc: Global, field: &[u8]) -> Result<Option<Bytes>, NoMemory>
     ensures { IfOk result (λ bytes. bytes ≡ unescaped field.now) }
@@ -121,7 +137,7 @@ pub fn unescape(alloc: Global, field: &[u8]) -> Result<Option<Bytes>, NoMemory>
     let mut out = Bytes::with_capacity(alloc, field.len())?;
     let mut rest = field;
     loop {
-        let (run, Some(escape)) = cut(b'\\', rest) else {
+        let Some((run, escape)) = cut(b'\\', rest) else {
             out.extend(rest)?;
             return Ok(Some(out));
         };

@@ -1,13 +1,13 @@
-ghost use Rattle.std.specs.Prelude.{◌≡◌, ◌+◌, ◌<◌, ◌++◌, ℕ, List, All, drop, length, IfErr, IfOk, IfNone, IfSome, OnOk, OnErr};
+ghost use Rattle.std.specs.Prelude.{◌≡◌, ◌≢◌, ◌+◌, ◌<◌, ◌++◌, ℕ, List, All, true, false, Ok, Err, drop, length, IfErr, IfOk, IfNone, IfSome, OnOk, OnErr};
 ghost use Rattle.tk_model.specs.declared.record.Pair.{Pair};
 ghost use Rattle.tk_flat.specs.Errors.{Answers, Extends, Names};
-ghost use Rattle.tk_flat.specs.Flat.{BeginsWith, BeginsWithNone, IsFault, IsFlat, IsFlatText, flat_text, record_text};
+ghost use Rattle.tk_flat.specs.Flat.{BeginsWith, BeginsWithNone, IsFault, IsFlat, IsFlatText, flat_text, flat_word, lengths_text, record_text};
 
 use crate::TextError;
 use std::alloc::Global;
 use tk_model::{Bytes, NoMemory, Pair, PairList};
 
-const WORD: &[u8; 8] = b"TKPFLAT\n";
+const WORD: [u8; 8] = *b"TKPFLAT\n";
 
 const MAX_VALUE: usize = 33_554_431;
 
@@ -38,12 +38,18 @@ pub fn record_at(bytes: &[u8]) -> Option<FlatRecord<'_>>
     })
 }
 
-/// The records of a flat text.
-pub fn read_flat(alloc: Global, bytes: &[u8]) -> Result<PairList, TextError>
+fn has_word(bytes: &[u8]) -> bool
+    ensures yes { result ≡ true → bytes.now ≡ flat_word ++ drop 8 bytes.now }
+    ensures no { result ≡ false → (rest : List ℕ) → bytes.now ≢ flat_word ++ rest }
+{
+    bytes.starts_with(&WORD)
+}
+
+fn read_records(alloc: Global, bytes: &[u8]) -> Result<PairList, TextError>
     ensures read { IfOk result (λ pairs. IsFlatText bytes.now pairs) }
     ensures place { IfErr result (Names (IsFault bytes.now)) }
 {
-    if bytes.len() < WORD.len() || &bytes[..WORD.len()] != WORD.as_slice() {
+    if !has_word(bytes) {
         return Err(TextError::At(0));
     }
     let mut pairs = PairList::new(alloc);
@@ -55,31 +61,52 @@ pub fn read_flat(alloc: Global, bytes: &[u8]) -> Result<PairList, TextError>
         let key = Bytes::from_slice(alloc, found.key)?;
         let value = Bytes::from_slice(alloc, found.value)?;
         pairs.push(Pair { key, value })?;
-        place += 6 + found.key.len() + found.value.len();
+        place += 6 + (found.key.len() + found.value.len());
     }
     Ok(pairs)
 }
 
+#[tactic(auto, using(crate::proofs::Judged::flat_accepted, crate::proofs::Judged::flat_refused))]
+/// The records of a flat text.
+pub fn read_flat(alloc: Global, bytes: &[u8]) -> Result<PairList, TextError>
+    ensures read { IfOk result (λ pairs. IsFlatText bytes.now pairs) }
+    ensures place { IfErr result (Names (IsFault bytes.now)) }
+    ensures accepted { (pairs : List Pair) → IsFlatText bytes.now pairs → Answers (Ok pairs) result }
+    ensures refused { (place : ℕ) → IsFault bytes.now place → Answers (Err (TextError.At place)) result }
+{
+    read_records(alloc, bytes)
+}
+
+#[tactic(auto, unfolding(crate::specs::Flat::lengths_text))]
+fn lengths_text(pair: &Pair) -> [u8; 6]
+    requires { IsFlat pair.now }
+    ensures { result ≡ lengths_text pair.now }
+{
+    let k = (pair.key.len() as u16).to_be_bytes();
+    let v = (pair.value.len() as u32).to_be_bytes();
+    [k[0], k[1], v[0], v[1], v[2], v[3]]
+}
+
+#[tactic(auto, using(crate::proofs::Lists::Extends_same, crate::proofs::Lists::Extends_by), unfolding(crate::specs::Flat::record_text))]
 /// Puts a record at the end.
 pub fn write_record(pair: &Pair, out: &mut Bytes) -> Result<(), NoMemory>
     requires { IsFlat pair.now }
     ensures ok { OnOk result (out.new ≡ out.old ++ record_text pair.now) }
     ensures err { OnErr result (Extends out.old out.new) }
 {
-    let k = (pair.key.len() as u16).to_be_bytes();
-    let v = (pair.value.len() as u32).to_be_bytes();
-    out.extend(&[k[0], k[1], v[0], v[1], v[2], v[3]])?;
+    out.extend(&lengths_text(pair))?;
     out.extend(pair.key.as_slice())?;
     out.extend(pair.value.as_slice())
 }
 
+#[tactic(auto, using(crate::proofs::Lists::Extends_then, crate::proofs::Lists::Extends_by), unfolding(crate::specs::Flat::flat_text))]
 /// Puts the flat text of records at the end.
 pub fn write_flat(pairs: &PairList, out: &mut Bytes) -> Result<(), NoMemory>
     requires { All IsFlat pairs.now }
     ensures ok { OnOk result (out.new ≡ out.old ++ flat_text pairs.now) }
     ensures err { OnErr result (Extends out.old out.new) }
 {
-    out.extend(WORD)?;
+    out.extend(&WORD)?;
     for pair in pairs.as_slice() {
         write_record(pair, out)?;
     }

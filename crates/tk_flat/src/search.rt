@@ -2,14 +2,12 @@ ghost use Rattle.std.specs.Prelude.{◌≡◌, ◌==◌, ◌++◌, ◌∷◌, fa
 
 use memchr::memchr;
 
-/// The bytes before the first such byte, and those behind it; all, where there is none.
-pub fn cut(byte: u8, bytes: &[u8]) -> (&[u8], Option<&[u8]>)
-    ensures found { IfSome result.1 (λ behind. bytes.now ≡ result.0.now ++ byte ∷ behind.now) }
-    ensures none { IfNone result.1 (bytes.now ≡ result.0.now) }
-    ensures first { All (λ b. (b == byte) ≡ false) result.0.now }
+/// The bytes before the first such byte, and those behind it.
+pub fn cut(byte: u8, bytes: &[u8]) -> Option<(&[u8], &[u8])>
+    ensures found { IfSome result (λ r. bytes.now ≡ r.0.now ++ byte ∷ r.1.now) }
+    ensures first { IfSome result (λ r. All (λ b. (b == byte) ≡ false) r.0.now) }
+    ensures none { IfNone result (All (λ b. (b == byte) ≡ false) bytes.now) }
 {
-    match memchr(byte, bytes) {
-        Some(at) => (&bytes[..at], Some(&bytes[at + 1..])),
-        None => (bytes, None),
-    }
+    let at = memchr(byte, bytes)?;
+    Some((&bytes[..at], &bytes[at + 1..]))
 }
