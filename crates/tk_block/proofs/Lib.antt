@@ -7,4 +7,5 @@ pub mod Groups
 pub mod Heads
 pub mod Layouts
 pub mod Lengths
+pub mod NewNumber
 pub mod Shifts

@@ -45,6 +45,10 @@ block_text b place link =
 abbrev pub said : Block → Body
 said b = record { kind = b.kind; last = b.last; key = b.key.now; value = b.value.now; number = b.number }
 
+-- the same body under another number
+abbrev pub numbered : (number : ℕ) → Body → Body
+numbered number b = record { kind = b.kind; last = b.last; key = b.key; value = b.value; number = number }
+
 -- key and value are within the limits of a block
 pub record IsSmall (key value : List ℕ) : Type 0 where
   pub key_fits : length key < 2 ^ 16
