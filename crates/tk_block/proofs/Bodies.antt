@@ -15,8 +15,8 @@ use Rattle.tk_block.proofs.Cells.{within}
 -- a front that is made of two parts
 pub seam : (n k : ℕ) (bytes xs ys : List ℕ) → length xs ≡ n → take (n + k) bytes ≡ xs ++ ys → (take n bytes ≡ xs) × (take k (drop n bytes) ≡ ys)
 seam n k bytes xs ys long is = (
-    sym (within 0 n (n + k) bytes (omega arith)) ∙ ap (λ l. take n l) is ∙ take_at xs ys n long,
-    sym (drop-take n k bytes) ∙ ap (λ l. drop n l) is ∙ drop_at xs ys n long
+  sym (within 0 n (n + k) bytes (omega arith)) ∙ ap (λ l. take n l) is ∙ take_at xs ys n long,
+  sym (drop-take n k bytes) ∙ ap (λ l. drop n l) is ∙ drop_at xs ys n long,
 )
 
 pub joined_front : (n k : ℕ) (bytes xs ys : List ℕ) → take n bytes ≡ xs → take k (drop n bytes) ≡ ys → take (n + k) bytes ≡ xs ++ ys
@@ -68,4 +68,4 @@ pub spelled_tests : (bytes : List ℕ) (place : ℕ) → check_in bytes + 4 ≤ 
 spelled_tests bytes place fits = same_tests _ _
     (λ h. (bytes_eq-Decides _ _).1 (body_joined (u16_in bytes 2) (u32_in bytes 4) (body_in bytes) place bytes ((bytes_eq-Decides _ _).0 (two_true _ _ h).0) refl refl ((bytes_eq-Decides _ _).0 (two_true _ _ h).1)))
     (λ h. let parts = body_parts (u16_in bytes 2) (u32_in bytes 4) (body_in bytes) place bytes (key_long bytes fits) (value_long bytes fits) ((bytes_eq-Decides _ _).0 h) in
-        rw ((bytes_eq-Decides _ _).1 parts.0, (bytes_eq-Decides _ _).1 parts.3) refl)
+    rw ((bytes_eq-Decides _ _).1 parts.0, (bytes_eq-Decides _ _).1 parts.3) refl)

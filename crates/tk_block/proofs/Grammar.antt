@@ -26,8 +26,8 @@ pub from_fronts : {A : Type 0} (Fits : A → Type 0) (text : A → List ℕ) (fi
     → ((bytes : List ℕ) (x : A) → Fits x → take (n x) bytes ≡ text x → find bytes ≡ Some x)
     → Reads Fits text find
 from_fronts Fits text find n long found again = record {
-    found = λ bytes x h. ((found bytes x h).0, ap (λ k. take k bytes) (long x) ∙ (found bytes x h).1);
-    again = λ x rest h. again (text x ++ rest) x h (ap (λ k. take k (text x ++ rest)) (sym (long x)) ∙ take-append_seam (text x) rest)
+  found = λ bytes x h. ((found bytes x h).0, ap (λ k. take k bytes) (long x) ∙ (found bytes x h).1);
+  again = λ x rest h. again (text x ++ rest) x h (ap (λ k. take k (text x ++ rest)) (sym (long x)) ∙ take-append_seam (text x) rest);
 }
 
 extent_small : (e : ℕ) → FitsExtent e → e < 2 ^ 64

@@ -8,4 +8,5 @@ pub mod Heads
 pub mod Layouts
 pub mod Lengths
 pub mod NewNumber
+pub mod Renumbering
 pub mod Shifts

@@ -82,7 +82,7 @@ numbered_text : (at number : ℕ) (text front : List ℕ) (b : Body) (place link
     → written (at + 32) text (to_be_bytes w64 number) ≡ (front ++ opening b place link) ++ (body_front (numbered number b) ++ (sum_text b place ++ ending b rest))
 numbered_text at number text front b place link rest here is =
     let cut : text ≡ (front ++ (opening b place link ++ lengths_text b)) ++ (to_be_bytes w64 b.number ++ ((b.key ++ b.value) ++ (sum_text b place ++ ending b rest))) =
-        is ∙ ap (λ l. front ++ l) (block_split b place link rest ∙ ap (λ l. opening b place link ++ (l ++ (sum_text b place ++ ending b rest))) (front_split b)) ∙ simp append_assoc in
+    is ∙ ap (λ l. front ++ l) (block_split b place link rest ∙ ap (λ l. opening b place link ++ (l ++ (sum_text b place ++ ending b rest))) (front_split b)) ∙ simp append_assoc in
     overwritten (at + 32) text _ (to_be_bytes w64 b.number) _ (to_be_bytes w64 number) cut (omega (arith, length-append front (opening b place link ++ lengths_text b), length-append (opening b place link) (lengths_text b), length-opening b place link)) refl
     ∙ rw (front_split (numbered number b)) (simp append_assoc)
 

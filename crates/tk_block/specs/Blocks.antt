@@ -94,11 +94,11 @@ is_body b =
 
 abbrev pub body_in : List ℕ → Body
 body_in bytes = record {
-    kind = slice_index bytes 0;
-    last = slice_index bytes 1 == 1;
-    key = take (u16_in bytes 2) (drop 16 bytes);
-    value = take (u32_in bytes 4) (drop (16 + u16_in bytes 2) bytes);
-    number = u64_in bytes 8
+  kind = slice_index bytes 0;
+  last = slice_index bytes 1 == 1;
+  key = take (u16_in bytes 2) (drop 16 bytes);
+  value = take (u32_in bytes 4) (drop (16 + u16_in bytes 2) bytes);
+  number = u64_in bytes 8;
 }
 
 -- where the check stands, by the lengths at the front

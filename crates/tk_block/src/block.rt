@@ -120,7 +120,11 @@ fn check_place(bytes: &[u8]) -> Option<usize>
         return None;
     }
     let place = 16 + u16_at(bytes, 2) as usize + u32_at(bytes, 4) as usize;
-    if place <= bytes.len() - 4 { Some(place) } else { None }
+    if place <= bytes.len() - 4 {
+        Some(place)
+    } else {
+        None
+    }
 }
 
 fn fields_of(bytes: &[u8], check_at: usize) -> Block<'_>

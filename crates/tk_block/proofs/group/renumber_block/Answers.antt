@@ -40,11 +40,12 @@ returns-clause-block c = λ front b link rest here small spelled.
     let value = c.u32_at-value.ensures ∙ ap (λ l. u32_in l (c.args.at + 28)) c.as_slice-3.ensures in
     let mid = c.write_at.ensures ∙ ap (λ l. written (c.args.at + 32) c.args.text.now l) c.to_be_bytes.ensures in
     let sum = c.to_be_bytes-2.ensures ∙ ap (λ n. to_be_bytes w32 n) (c.check-sum.ensures ∙ ap (λ l. check_number (take (c.args.at + 40 + c.u16_at-key.result + c.u32_at-value.result - (c.args.at + 24)) (drop (c.args.at + 24) l)) c.args.place) c.as_slice-4.ensures) in
-    let new = c.write_at-2.ensures ∙ ap (λ l. written (c.args.at + 40 + c.u16_at-key.result + c.u32_at-value.result) c.write_at.new.self l) sum in
-    (rewritten c.args.at c.u16_at-key.result c.u32_at-value.result c.args.number c.args.place link c.args.text.now front b rest c.write_at.new.self c.write_at-2.new.self here spelled
-        (key ∙ key_told c.args.at c.args.text.now front b c.args.place link rest here small spelled)
-        (value ∙ value_told c.args.at c.args.text.now front b c.args.place link rest here small spelled) mid new,
-    extent ∙ extent_told c.args.at c.args.text.now front b c.args.place link rest here small spelled)
+    let new = c.write_at-2.ensures ∙ ap (λ l. written (c.args.at + 40 + c.u16_at-key.result + c.u32_at-value.result) c.write_at.new.self l) sum in (
+      rewritten c.args.at c.u16_at-key.result c.u32_at-value.result c.args.number c.args.place link c.args.text.now front b rest c.write_at.new.self c.write_at-2.new.self here spelled
+          (key ∙ key_told c.args.at c.args.text.now front b c.args.place link rest here small spelled)
+          (value ∙ value_told c.args.at c.args.text.now front b c.args.place link rest here small spelled) mid new,
+      extent ∙ extent_told c.args.at c.args.text.now front b c.args.place link rest here small spelled,
+    )
 
 pub returns-clause-length : goal.returns-clause-length
 returns-clause-length c =
