@@ -1,15 +1,15 @@
 -- The text of a body, part by part.
-use Rattle.std.proofs.Common.{◌≡◌, ℕ, zero, suc, ◌+◌, ◌<◌, ◌≤◌, ◌^◌, List, [], ◌∷◌, ◌++◌, take, drop, length, Bool, true, false, refl, sym, ◌∙◌, ap, subst, arith}
+use Rattle.std.proofs.Common.{◌≡◌, ℕ, ◌+◌, ◌≤◌, List, ◌++◌, take, drop, length, Bool, true, false, refl, sym, ◌∙◌, ap, arith}
 use Rattle.std.specs.Prelude.{◌&&◌}
-use Rattle.std.specs.Int.{w16, w32, w64, to_be_bytes, from_be_bytes}
+use Rattle.std.specs.Int.{w32, to_be_bytes}
 use Rattle.std.specs.Str.{bytes_eq}
 use Rattle.std.proofs.lemmas.Slice.Eq.{bytes_eq-Decides}
 use Rattle.std.proofs.lemmas.List.{take_at, drop_at, drop-take, length-append, length-take-le, length-drop}
 use Rattle.std.proofs.Math.Seq.{take-add}
 use Rattle.tk_block.specs.declared.block.Body.{Body}
-use Rattle.tk_block.specs.Number.{u16_in, u32_in, u64_in}
+use Rattle.tk_block.specs.Number.{u16_in, u32_in}
 use Rattle.tk_block.specs.Text.{checked, check_number}
-use Rattle.tk_block.specs.Blocks.{flag, numbers_text, body_front, body_text, body_in, check_in}
+use Rattle.tk_block.specs.Blocks.{numbers_text, body_front, body_text, body_in, check_in}
 use Rattle.tk_block.proofs.Cells.{within}
 
 -- a front that is made of two parts

@@ -2,7 +2,6 @@
 use Rattle.std.proofs.Common.{◌≡◌, ℕ, ◌+◌, ◌<◌, ◌≤◌, ◌^◌, List, ◌++◌, take, drop, length, get_or, Option, Some, Bool, true, false, refl, sym, ◌∙◌, ap, subst, arith}
 use Rattle.std.specs.Prelude.{◌&&◌, nat_le, slice_index}
 use Rattle.std.specs.Int.{w32, w64, to_be_bytes, from_be_bytes}
-use Rattle.std.specs.Io.{StartsWith}
 use Rattle.std.proofs.Math.Seq.{take-append_seam}
 use Rattle.tk_block.specs.Text.{head_at, head_text, closing_at, closing_in, closing_front, closing_text, static_at, static_text, static_front, fields_in, is_static}
 use Rattle.tk_block.specs.Grammar.{Reads, FitsExtent, FitsClosing, FitsStatic}

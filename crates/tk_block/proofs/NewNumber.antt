@@ -1,5 +1,5 @@
 -- A block's text, cut where a new number and its check are written.
-use Rattle.std.proofs.Common.{◌≡◌, ℕ, ◌+◌, ◌-◌, ◌<◌, ◌≤◌, ◌^◌, List, [], ◌∷◌, ◌++◌, take, drop, length, replicate, refl, sym, ◌∙◌, ap, subst, append_assoc, arith}
+use Rattle.std.proofs.Common.{◌≡◌, ℕ, ◌+◌, ◌-◌, ◌≤◌, List, ◌∷◌, ◌++◌, take, drop, length, replicate, refl, sym, ◌∙◌, ap, append_assoc, arith}
 use Rattle.std.specs.Int.{w16, w32, w64, to_be_bytes, from_be_bytes}
 use Rattle.std.proofs.lemmas.List.{take_at, drop_at, length-append, length-take, length-drop}
 use Rattle.std.proofs.Math.Seq.{drop-append-add}
@@ -7,7 +7,7 @@ use Rattle.std.proofs.lemmas.Nat.{from_be_bytes-to_be_bytes_2, from_be_bytes-to_
 use Rattle.tk_block.specs.declared.block.Body.{Body}
 use Rattle.tk_block.specs.Number.{u16_in, u32_in, u64_in}
 use Rattle.tk_block.specs.Text.{head_text, head_front, checked, check_number}
-use Rattle.tk_block.specs.Blocks.{IsSmall, flag, numbers_text, body_front, body_text, block_text, extent_of, room_of, numbered}
+use Rattle.tk_block.specs.Blocks.{IsSmall, flag, numbers_text, body_front, block_text, extent_of, room_of, numbered}
 use Rattle.tk_block.specs.Renumber.{IsBlockIn}
 use Rattle.tk_block.proofs.Heads.{length-head_text}
 use Rattle.tk_block.proofs.Bodies.{length-numbers_text}

@@ -1,10 +1,10 @@
 -- A group gets another number block by block.
-use Rattle.std.proofs.Common.{◌≡◌, ℕ, ◌+◌, ◌<◌, ◌≤◌, ◌^◌, List, [], ◌∷◌, ◌++◌, drop, length, refl, sym, ◌∙◌, ap, subst, append_assoc, arith}
-use Rattle.std.proofs.lemmas.List.{length-append, append-nil}
+use Rattle.std.proofs.Common.{◌≡◌, ℕ, ◌+◌, ◌<◌, ◌≤◌, ◌^◌, List, [], ◌∷◌, ◌++◌, drop, length, refl, sym, ◌∙◌, ap, append_assoc, arith}
+use Rattle.std.proofs.lemmas.List.{length-append}
 use Rattle.tk_model.specs.declared.record.Change.{Change}
 use Rattle.tk_block.specs.declared.block.Body.{Body}
-use Rattle.tk_block.specs.Blocks.{IsSmall, AllSmall, body_of, is_nil, group_bodies, block_text, extent_of, numbered}
-use Rattle.tk_block.specs.Layout.{laid, end_of, texts, first_or_none}
+use Rattle.tk_block.specs.Blocks.{AllSmall, body_of, is_nil, group_bodies, block_text, extent_of, numbered}
+use Rattle.tk_block.specs.Layout.{laid, texts, first_or_none}
 use Rattle.tk_block.specs.Renumber.{IsGroupText, IsBlockIn, RenumberedBlock}
 use Rattle.tk_block.proofs.Lengths.{length-block_text, length-texts}
 

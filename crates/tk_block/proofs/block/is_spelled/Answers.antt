@@ -1,9 +1,9 @@
-use Rattle.std.proofs.Common.{◌≡◌, ◌+◌, ◌-◌, ℕ, List, Bool, true, false, take, drop, refl, sym, ◌∙◌, ap, subst, arith}
+use Rattle.std.proofs.Common.{◌≡◌, ◌+◌, ◌-◌, true, false, take, drop, refl, sym, ◌∙◌, ap, arith}
 use Rattle.std.specs.Prelude.{◌&&◌}
 use Rattle.std.specs.Int.{w32, to_be_bytes}
 use Rattle.std.specs.Str.{bytes_eq}
 use Rattle.tk_block.specs.Text.{check_number}
-use Rattle.tk_block.specs.Blocks.{numbers_text, body_text, body_in, check_in, said}
+use Rattle.tk_block.specs.Blocks.{numbers_text, body_in, check_in}
 use Rattle.tk_block.proofs.Bodies.{spelled_tests}
 use Rattle.tk_block.proofs.block.is_spelled.Goals as goal
 

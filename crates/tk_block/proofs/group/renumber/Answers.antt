@@ -1,4 +1,4 @@
-use Rattle.std.proofs.Common.{◌≡◌, ◌+◌, ◌-◌, ◌≤◌, ◌++◌, ℕ, List, length, take, drop, refl, sym, ◌∙◌, ap, subst, arith}
+use Rattle.std.proofs.Common.{refl, ◌∙◌, arith}
 use Rattle.tk_block.proofs.Renumbering.{begins, block_next, goes_on, block_within, ends, text_fits}
 use Rattle.tk_block.proofs.group.renumber.Goals as goal
 

@@ -1,5 +1,5 @@
-use Rattle.std.proofs.Common.{◌≡◌, ◌+◌, ◌-◌, ◌≤◌, ◌++◌, ℕ, List, length, take, drop, sym, ◌∙◌, ap, subst, arith}
-use Rattle.std.specs.Int.{w32, w64, to_be_bytes}
+use Rattle.std.proofs.Common.{◌≡◌, ◌+◌, ◌-◌, length, take, drop, ◌∙◌, ap, arith}
+use Rattle.std.specs.Int.{w32, to_be_bytes}
 use Rattle.tk_block.specs.Number.{u16_in, u32_in, u64_in}
 use Rattle.tk_block.specs.Text.{check_number}
 use Rattle.tk_block.proofs.NewNumber.{fit, written, length-written, extent_told, key_told, value_told, rewritten}
