@@ -1,4 +1,5 @@
-ghost use Rattle.std.specs.Prelude.{◌≡◌, ◌≤◌, ◌<◌, ◌^◌, ◌+◌, ◌++◌, length, OnOk};
+ghost use Rattle.std.specs.Prelude.{◌≡◌, ◌≤◌, ◌<◌, ◌^◌, ◌+◌, ◌++◌, length, OnOk, OnErr};
+ghost use Rattle.std.specs.Io.{StartsWith};
 ghost use Rattle.tk_block.specs.Blocks.{AllSmall, group_bodies, kind_of, key_of, value_of};
 ghost use Rattle.tk_block.specs.Layout.{group_text, end_of};
 ghost use Rattle.tk_block.specs.Renumber.{IsGroupText, Renumbered, IsBlockIn, RenumberedBlock};
@@ -37,7 +38,8 @@ pub fn write_group(g: &Group, place: u64, links: &LinkList, out: &mut Bytes) -> 
     requires small { AllSmall g.now.changes }
     requires links { length links.now ≡ length g.now.changes }
     requires end { end_of place (group_bodies g.now.number g.now.changes) ≤ 2 ^ 40 }
-    ensures { OnOk result (out.new ≡ out.old ++ group_text g.now place links.now) }
+    ensures ok { OnOk result (out.new ≡ out.old ++ group_text g.now place links.now) }
+    ensures err { OnErr result (StartsWith out.new out.old) }
 {
     let count = g.changes.len();
     let mut at = place;
