@@ -1,22 +1,22 @@
 -- The text of a body, part by part.
-use Rattle.std.proofs.Common.{◌≡◌, ℕ, zero, suc, ◌+◌, ◌<◌, ◌≤◌, ◌^◌, List, [], ◌∷◌, ◌++◌, take, drop, length, Bool, true, false, refl, sym, ◌∙◌, ap, subst, arith}
+use Rattle.std.proofs.Common.{◌≡◌, ℕ, ◌+◌, ◌≤◌, List, ◌++◌, take, drop, length, Bool, true, false, refl, sym, ◌∙◌, ap, arith}
 use Rattle.std.specs.Prelude.{◌&&◌}
-use Rattle.std.specs.Int.{w16, w32, w64, to_be_bytes, from_be_bytes}
+use Rattle.std.specs.Int.{w32, to_be_bytes}
 use Rattle.std.specs.Str.{bytes_eq}
 use Rattle.std.proofs.lemmas.Slice.Eq.{bytes_eq-Decides}
 use Rattle.std.proofs.lemmas.List.{take_at, drop_at, drop-take, length-append, length-take-le, length-drop}
 use Rattle.std.proofs.Math.Seq.{take-add}
 use Rattle.tk_block.specs.declared.block.Body.{Body}
-use Rattle.tk_block.specs.Number.{u16_in, u32_in, u64_in}
+use Rattle.tk_block.specs.Number.{u16_in, u32_in}
 use Rattle.tk_block.specs.Text.{checked, check_number}
-use Rattle.tk_block.specs.Blocks.{flag, numbers_text, body_front, body_text, body_in, check_in}
+use Rattle.tk_block.specs.Blocks.{numbers_text, body_front, body_text, body_in, check_in}
 use Rattle.tk_block.proofs.Cells.{within}
 
 -- a front that is made of two parts
 pub seam : (n k : ℕ) (bytes xs ys : List ℕ) → length xs ≡ n → take (n + k) bytes ≡ xs ++ ys → (take n bytes ≡ xs) × (take k (drop n bytes) ≡ ys)
 seam n k bytes xs ys long is = (
-    sym (within 0 n (n + k) bytes (omega arith)) ∙ ap (λ l. take n l) is ∙ take_at xs ys n long,
-    sym (drop-take n k bytes) ∙ ap (λ l. drop n l) is ∙ drop_at xs ys n long
+  sym (within 0 n (n + k) bytes (omega arith)) ∙ ap (λ l. take n l) is ∙ take_at xs ys n long,
+  sym (drop-take n k bytes) ∙ ap (λ l. drop n l) is ∙ drop_at xs ys n long,
 )
 
 pub joined_front : (n k : ℕ) (bytes xs ys : List ℕ) → take n bytes ≡ xs → take k (drop n bytes) ≡ ys → take (n + k) bytes ≡ xs ++ ys
@@ -68,4 +68,4 @@ pub spelled_tests : (bytes : List ℕ) (place : ℕ) → check_in bytes + 4 ≤ 
 spelled_tests bytes place fits = same_tests _ _
     (λ h. (bytes_eq-Decides _ _).1 (body_joined (u16_in bytes 2) (u32_in bytes 4) (body_in bytes) place bytes ((bytes_eq-Decides _ _).0 (two_true _ _ h).0) refl refl ((bytes_eq-Decides _ _).0 (two_true _ _ h).1)))
     (λ h. let parts = body_parts (u16_in bytes 2) (u32_in bytes 4) (body_in bytes) place bytes (key_long bytes fits) (value_long bytes fits) ((bytes_eq-Decides _ _).0 h) in
-        rw ((bytes_eq-Decides _ _).1 parts.0, (bytes_eq-Decides _ _).1 parts.3) refl)
+    rw ((bytes_eq-Decides _ _).1 parts.0, (bytes_eq-Decides _ _).1 parts.3) refl)

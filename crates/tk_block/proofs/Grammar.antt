@@ -2,7 +2,6 @@
 use Rattle.std.proofs.Common.{◌≡◌, ℕ, ◌+◌, ◌<◌, ◌≤◌, ◌^◌, List, ◌++◌, take, drop, length, get_or, Option, Some, Bool, true, false, refl, sym, ◌∙◌, ap, subst, arith}
 use Rattle.std.specs.Prelude.{◌&&◌, nat_le, slice_index}
 use Rattle.std.specs.Int.{w32, w64, to_be_bytes, from_be_bytes}
-use Rattle.std.specs.Io.{StartsWith}
 use Rattle.std.proofs.Math.Seq.{take-append_seam}
 use Rattle.tk_block.specs.Text.{head_at, head_text, closing_at, closing_in, closing_front, closing_text, static_at, static_text, static_front, fields_in, is_static}
 use Rattle.tk_block.specs.Grammar.{Reads, FitsExtent, FitsClosing, FitsStatic}
@@ -26,8 +25,8 @@ pub from_fronts : {A : Type 0} (Fits : A → Type 0) (text : A → List ℕ) (fi
     → ((bytes : List ℕ) (x : A) → Fits x → take (n x) bytes ≡ text x → find bytes ≡ Some x)
     → Reads Fits text find
 from_fronts Fits text find n long found again = record {
-    found = λ bytes x h. ((found bytes x h).0, ap (λ k. take k bytes) (long x) ∙ (found bytes x h).1);
-    again = λ x rest h. again (text x ++ rest) x h (ap (λ k. take k (text x ++ rest)) (sym (long x)) ∙ take-append_seam (text x) rest)
+  found = λ bytes x h. ((found bytes x h).0, ap (λ k. take k bytes) (long x) ∙ (found bytes x h).1);
+  again = λ x rest h. again (text x ++ rest) x h (ap (λ k. take k (text x ++ rest)) (sym (long x)) ∙ take-append_seam (text x) rest);
 }
 
 extent_small : (e : ℕ) → FitsExtent e → e < 2 ^ 64

@@ -1,7 +1,8 @@
 -- The text of a group, a change at a time.
-use Rattle.std.proofs.Common.{◌≡◌, ℕ, zero, suc, ◌+◌, ◌≤◌, List, [], ◌∷◌, ◌++◌, length, drop, nat_eq, Some, refl, ◌∙◌, ap, append_assoc, arith}
+use Rattle.std.proofs.Common.{◌≡◌, ℕ, zero, suc, ◌+◌, ◌≤◌, List, [], ◌∷◌, ◌++◌, length, take, drop, nat_eq, Some, refl, ◌∙◌, ap, append_assoc, arith}
 use Rattle.std.specs.Prelude.{slice_get}
-use Rattle.std.proofs.lemmas.List.{drop_more}
+use Rattle.std.specs.Io.{StartsWith}
+use Rattle.std.proofs.lemmas.List.{drop_more, take-append-le, length-take}
 use Rattle.std.proofs.lemmas.Option.{get_or_from_slice_get, slice_get_within}
 use Rattle.tk_model.specs.declared.record.Change.{Change}
 use Rattle.tk_block.specs.declared.block.Body.{Body}
@@ -33,3 +34,8 @@ goes_on number at e b c cs rest link links left out new p q r s t = rw (p, q, s,
 
 pub end_goes_on : (number at e : ℕ) (b : Body) (c : Change) (cs rest : List Change) → cs ≡ c ∷ rest → b ≡ body_of number c (is_nil rest) → e ≡ extent_of b → end_of (at + e) (group_bodies number rest) ≡ end_of at (group_bodies number cs)
 end_goes_on number at e b c cs rest p r s = rw (p, s, r) refl
+
+-- what stood at the front stands there when more is written behind
+pub starts_more : (first out text new : List ℕ) → StartsWith out first → new ≡ out ++ text → StartsWith new first
+starts_more first out text new kept is =
+    ap (λ l. take (length first) l) is ∙ take-append-le (length first) out text (omega (arith, ap length kept, length-take {A = ℕ} (length first) out)) ∙ kept

@@ -7,4 +7,6 @@ pub mod Groups
 pub mod Heads
 pub mod Layouts
 pub mod Lengths
+pub mod NewNumber
+pub mod Renumbering
 pub mod Shifts

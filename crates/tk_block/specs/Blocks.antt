@@ -45,6 +45,10 @@ block_text b place link =
 abbrev pub said : Block → Body
 said b = record { kind = b.kind; last = b.last; key = b.key.now; value = b.value.now; number = b.number }
 
+-- the same body under another number
+abbrev pub numbered : (number : ℕ) → Body → Body
+numbered number b = record { kind = b.kind; last = b.last; key = b.key; value = b.value; number = number }
+
 -- key and value are within the limits of a block
 pub record IsSmall (key value : List ℕ) : Type 0 where
   pub key_fits : length key < 2 ^ 16
@@ -90,11 +94,11 @@ is_body b =
 
 abbrev pub body_in : List ℕ → Body
 body_in bytes = record {
-    kind = slice_index bytes 0;
-    last = slice_index bytes 1 == 1;
-    key = take (u16_in bytes 2) (drop 16 bytes);
-    value = take (u32_in bytes 4) (drop (16 + u16_in bytes 2) bytes);
-    number = u64_in bytes 8
+  kind = slice_index bytes 0;
+  last = slice_index bytes 1 == 1;
+  key = take (u16_in bytes 2) (drop 16 bytes);
+  value = take (u32_in bytes 4) (drop (16 + u16_in bytes 2) bytes);
+  number = u64_in bytes 8;
 }
 
 -- where the check stands, by the lengths at the front

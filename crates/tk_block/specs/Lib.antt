@@ -2,4 +2,5 @@ pub mod Blocks
 pub mod Grammar
 pub mod Layout
 pub mod Number
+pub mod Renumber
 pub mod Text

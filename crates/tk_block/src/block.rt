@@ -1,4 +1,5 @@
 ghost use Rattle.std.specs.Prelude.{◌≡◌, ◌≤◌, ◌<◌, ◌^◌, ◌+◌, ◌-◌, ◌++◌, ℕ, length, OnOk, OnErr, IfOk, option_map, Some, None, if◌then◌else◌, take, nat_le};
+ghost use Rattle.std.specs.Io.{StartsWith};
 ghost use Rattle.std.specs.Str.{bytes_eq};
 ghost use Rattle.tk_block.specs.Text.{check_number};
 ghost use Rattle.tk_block.specs.Grammar.{Reads, FitsBody};
@@ -70,7 +71,8 @@ fn numbers_of(block: Block<'_>) -> [u8; 16]
 
 fn put_front(block: Block<'_>, out: &mut Bytes) -> Result<(), NoMemory>
     requires { IsSmall block.key.now block.value.now }
-    ensures { OnOk result (out.new ≡ out.old ++ body_front (said block.entry)) }
+    ensures ok { OnOk result (out.new ≡ out.old ++ body_front (said block.entry)) }
+    ensures err { OnErr result (StartsWith out.new out.old) }
 {
     out.extend(&numbers_of(block))?;
     out.extend(block.key)?;
@@ -80,7 +82,8 @@ fn put_front(block: Block<'_>, out: &mut Bytes) -> Result<(), NoMemory>
 #[tactic(auto, unfolding(crate::specs::Text::checked))]
 fn put_body(block: Block<'_>, place: u64, out: &mut Bytes) -> Result<(), NoMemory>
     requires { IsSmall block.key.now block.value.now }
-    ensures { OnOk result (out.new ≡ out.old ++ body_text (said block.entry) place) }
+    ensures ok { OnOk result (out.new ≡ out.old ++ body_text (said block.entry) place) }
+    ensures err { OnErr result (StartsWith out.new out.old) }
 {
     let start = out.len();
     put_front(block, out)?;
@@ -92,7 +95,8 @@ fn put_body(block: Block<'_>, place: u64, out: &mut Bytes) -> Result<(), NoMemor
 #[tactic(auto, unfolding(crate::specs::Blocks::block_text))]
 pub fn write_block(block: Block<'_>, place: u64, link: u64, out: &mut Bytes) -> Result<(), NoMemory>
     requires { IsSmall block.key.now block.value.now }
-    ensures { OnOk result (out.new ≡ out.old ++ block_text (said block.entry) place link) }
+    ensures ok { OnOk result (out.new ≡ out.old ++ block_text (said block.entry) place link) }
+    ensures err { OnErr result (StartsWith out.new out.old) }
 {
     let room = 44 + block.key.len() + block.value.len();
     let extent = extent_of(block.key.len(), block.value.len());
@@ -120,7 +124,11 @@ fn check_place(bytes: &[u8]) -> Option<usize>
         return None;
     }
     let place = 16 + u16_at(bytes, 2) as usize + u32_at(bytes, 4) as usize;
-    if place <= bytes.len() - 4 { Some(place) } else { None }
+    if place <= bytes.len() - 4 {
+        Some(place)
+    } else {
+        None
+    }
 }
 
 fn fields_of(bytes: &[u8], check_at: usize) -> Block<'_>

@@ -1,8 +1,11 @@
-ghost use Rattle.std.specs.Prelude.{◌≡◌, ◌≤◌, ◌<◌, ◌^◌, ◌+◌, ◌++◌, length, OnOk};
+ghost use Rattle.std.specs.Prelude.{◌≡◌, ◌≤◌, ◌<◌, ◌^◌, ◌+◌, ◌++◌, length, OnOk, OnErr};
+ghost use Rattle.std.specs.Io.{StartsWith};
 ghost use Rattle.tk_block.specs.Blocks.{AllSmall, group_bodies, kind_of, key_of, value_of};
 ghost use Rattle.tk_block.specs.Layout.{group_text, end_of};
+ghost use Rattle.tk_block.specs.Renumber.{IsGroupText, Renumbered, IsBlockIn, RenumberedBlock};
 
-use crate::block::{Block, extent_of, write_block};
+use crate::block::{Block, check, extent_of, write_block};
+use crate::number::{u16_at, u32_at, u64_at};
 use tk_model::{Bytes, Change, Group, ListOf, NoMemory};
 
 /// A place for each change: that of the block before it in its bucket's chain, or 0.
@@ -35,7 +38,8 @@ pub fn write_group(g: &Group, place: u64, links: &LinkList, out: &mut Bytes) -> 
     requires small { AllSmall g.now.changes }
     requires links { length links.now ≡ length g.now.changes }
     requires end { end_of place (group_bodies g.now.number g.now.changes) ≤ 2 ^ 40 }
-    ensures { OnOk result (out.new ≡ out.old ++ group_text g.now place links.now) }
+    ensures ok { OnOk result (out.new ≡ out.old ++ group_text g.now place links.now) }
+    ensures err { OnErr result (StartsWith out.new out.old) }
 {
     let count = g.changes.len();
     let mut at = place;
@@ -45,4 +49,31 @@ pub fn write_group(g: &Group, place: u64, links: &LinkList, out: &mut Bytes) -> 
         at += extent_of(block.key.len(), block.value.len());
     }
     Ok(())
+}
+
+/// Renumbers the block at an index, and gives its length.
+fn renumber_block(text: &mut Bytes, at: usize, place: u64, number: u64) -> usize
+    requires { IsBlockIn text.old at place }
+    ensures block { RenumberedBlock text.old text.new at place number result }
+    ensures length { length text.new ≡ length text.old }
+{
+    let extent = u64_at(text.as_slice(), at + 4) as usize;
+    let key = u16_at(text.as_slice(), at + 26) as usize;
+    let value = u32_at(text.as_slice(), at + 28) as usize;
+    let check_at = at + 40 + key + value;
+    text.write_at(at + 32, &number.to_be_bytes());
+    let sum = check(&text.as_slice()[at + 24..check_at], place);
+    text.write_at(check_at, &sum.to_be_bytes());
+    extent
+}
+
+/// Gives a group's text for a place another number.
+pub fn renumber(text: &mut Bytes, place: u64, number: u64)
+    requires { IsGroupText text.old place }
+    ensures { Renumbered text.old text.new place number }
+{
+    let mut at = 0;
+    while at < text.len() {
+        at += renumber_block(text, at, place + at as u64, number);
+    }
 }

@@ -2,7 +2,7 @@ use Rattle.std.proofs.Common.{◌≡◌, ℕ, ◌+◌, ◌∷◌, List, length, 
 use Rattle.std.proofs.lemmas.List.{drop_more}
 use Rattle.tk_model.specs.declared.record.Change.{Change}
 use Rattle.tk_block.specs.Blocks.{AllSmall, group_bodies, body_of, is_nil}
-use Rattle.tk_block.proofs.Groups.{end_behind, is_nil-drop, item_here, goes_on, end_goes_on}
+use Rattle.tk_block.proofs.Groups.{end_behind, is_nil-drop, item_here, goes_on, end_goes_on, starts_more}
 use Rattle.tk_block.proofs.group.write_group.Goals as goal
 
 here : (c : goal.After-extent_of-at) → drop c.loop-i.i c.args.g.now.changes ≡ c.change-item.result ∷ drop (c.loop-i.i + 1) c.args.g.now.changes
@@ -23,7 +23,8 @@ pub loop-i-preserved : goal.loop-i-preserved
 loop-i-preserved c =
     let link = item_here c.args.links.now c.loop-i.i c.at.result.now c.at.ensures in
     record {
-      text = goes_on _ c.loop-i.at _ _ _ _ _ _ _ _ _ _ (here c) link (body c) c.extent_of-at.ensures.value c.in_ok-write_block.ensures ∙ c.loop-i.invariant.text;
+      text = goes_on _ c.loop-i.at _ _ _ _ _ _ _ _ _ _ (here c) link (body c) c.extent_of-at.ensures.value c.in_ok-write_block.ensures.ok ∙ c.loop-i.invariant.text;
       end = end_goes_on _ c.loop-i.at _ _ _ _ _ (here c) (body c) c.extent_of-at.ensures.value ∙ c.loop-i.invariant.end;
       small = (subst AllSmall (here c) c.loop-i.invariant.small).1;
+      kept = starts_more _ c.loop-i.out _ _ c.loop-i.invariant.kept c.in_ok-write_block.ensures.ok;
     }
