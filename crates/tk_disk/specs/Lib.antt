@@ -3,6 +3,7 @@ pub mod DirFolder
 pub mod Disk
 pub mod FileDisk
 pub mod Folder
+pub mod FolderLaws
 pub mod MemDisk
 pub mod MemFolder
 pub mod Memory

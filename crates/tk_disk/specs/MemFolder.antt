@@ -9,7 +9,7 @@ use Rattle.tk_disk.specs.declared.mem_folder.Slot.TheVariants.{Here, Out}
 use Rattle.tk_disk.specs.declared.memory.MemDisk.{MemDisk}
 use Rattle.tk_disk.specs.Crash.{Only}
 use Rattle.tk_disk.specs.Disk.{capped}
-use Rattle.tk_disk.specs.MemDisk.{mem_bytes, mem_room, mem_list, mem_calls, mem_faults, mem_taken, is_listed, MemMayLeave}
+use Rattle.tk_disk.specs.MemDisk.{mem_bytes, mem_room, mem_list, mem_calls, mem_faults, mem_taken, mem_moment, is_listed, MemMayLeave, MemLeftSince}
 use Rattle.tk_disk.specs.Places.{held_at}
 
 abbrev pub slot_disk : Option Slot → Option MemDisk
@@ -30,6 +30,22 @@ slot_faults None = 0
 slot_faults (Some (Here d)) = mem_faults d
 slot_faults (Some (Out n)) = n
 
+-- an absent file reads as an empty one
+abbrev pub SlotLeaves : Option Slot → List ℕ → Type 0
+SlotLeaves None c = c ≡ []
+SlotLeaves (Some (Here d)) c = MemMayLeave d c
+SlotLeaves (Some (Out n)) c = ⊥
+
+abbrev pub slot_moment : Option Slot → ℕ
+slot_moment None = 0
+slot_moment (Some (Here d)) = mem_moment d
+slot_moment (Some (Out n)) = 0
+
+abbrev pub SlotLeftSince : Option Slot → ℕ → List ℕ → Type 0
+SlotLeftSince None t c = c ≡ []
+SlotLeftSince (Some (Here d)) t c = MemLeftSince d t c
+SlotLeftSince (Some (Out n)) t c = ⊥
+
 -- the disk of a name, where it is there and not out
 abbrev pub folder_disk : MemFolder → List ℕ → Option MemDisk
 folder_disk f name = slot_disk (held_at f.places.items name)
@@ -45,6 +61,18 @@ folder_is_out f name = slot_is_out (held_at f.places.items name)
 -- the count of faults of the disk last given back or added under a name
 abbrev pub folder_disk_faults : MemFolder → List ℕ → ℕ
 folder_disk_faults f name = slot_faults (held_at f.places.items name)
+
+-- what a crash now may leave at a name
+abbrev pub FolderLeaves : MemFolder → List ℕ → List ℕ → Type 0
+FolderLeaves f name = SlotLeaves (held_at f.places.items name)
+
+-- how many steps the disk of a name has written down
+abbrev pub folder_moment_of : MemFolder → List ℕ → ℕ
+folder_moment_of f name = slot_moment (held_at f.places.items name)
+
+-- what a crash at some moment from one on may have left at a name
+abbrev pub FolderLeftSince : MemFolder → List ℕ → ℕ → List ℕ → Type 0
+FolderLeftSince f name = SlotLeftSince (held_at f.places.items name)
 
 abbrev pub folder_tells : MemFolder → Bool
 folder_tells f = true
@@ -84,6 +112,7 @@ pub record IsNewDisk (room : ℕ) (d : MemDisk) : Type 0 where
   pub crash : Only [] (MemMayLeave d)
   pub room_left : mem_room d ≡ room
   pub list : mem_list d ≡ []
+  pub moment : mem_moment d ≡ 0
   pub calls : mem_calls d ≡ 0
   pub faults : mem_faults d ≡ 0
   pub taken : mem_taken d ≡ 0

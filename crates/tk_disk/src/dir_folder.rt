@@ -95,6 +95,18 @@ impl<R: Files<File = File>> Folder for DirFolder<R> {
 
     ghost disk_faults = { dir_disk_faults };
 
+    ghost leaves = { λ _ _ _. ⊥ };
+
+    ghost moment_of = { λ _ _. 0 };
+
+    ghost left_since = { λ _ _ _ _. ⊥ };
+
+    ghost reads_left = { λ d name f told. Prim.cc };
+
+    ghost counts_now = { λ d name t c le now. now };
+
+    ghost only_now = { λ d name c left. left };
+
     fn faults(&self) -> u64 {
         self.faults
     }

@@ -17,3 +17,6 @@ pub use file::FileDisk;
 pub use folder::Folder;
 pub use mem_folder::MemFolder;
 pub use memory::MemDisk;
+
+#[cfg(test)]
+mod tests;

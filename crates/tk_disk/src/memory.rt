@@ -32,7 +32,7 @@ fn get(file: &[u8], at: u64, into: &mut [u8]) -> usize
 }
 
 impl MemDisk {
-    ghost use Rattle.tk_disk.specs.MemDisk.{mem_bytes, mem_tape, mem_room, mem_list, mem_calls, mem_faults, mem_taken, mem_fails, MemMayLeave};
+    ghost use Rattle.tk_disk.specs.MemDisk.{mem_bytes, mem_moment, mem_tape, mem_room, mem_list, mem_calls, mem_faults, mem_taken, mem_fails, MemMayLeave};
 
     /// All its memory is taken here.
     pub fn new(
@@ -43,6 +43,7 @@ impl MemDisk {
     ) -> Result<MemDisk, NoMemory>
         ensures bytes { IfOk result (λ d. mem_bytes d ≡ bytes) }
         ensures crash { IfOk result (λ d. Only bytes (MemMayLeave d)) }
+        ensures moment { IfOk result (λ d. mem_moment d ≡ 0) }
         ensures room { IfOk result (λ d. mem_room d ≡ room) }
         ensures list { IfOk result (λ d. mem_list d ≡ faults) }
         ensures calls { IfOk result (λ d. mem_calls d ≡ 0) }

@@ -1,10 +1,9 @@
 ghost use Rattle.std.specs.Prelude.{◌≡◌, IfOk, IfNone, false};
 
-use std::fs;
 use std::fs::{File, Files, OpenOptions};
-use std::io;
 use std::io::{Error, ErrorKind};
 use std::path::Path;
+use std::{fs, io};
 
 /// Whether a file is there. What is there and is no regular file is an error.
 fn is_there(files: &impl Files, path: &str) -> io::Result<bool> {

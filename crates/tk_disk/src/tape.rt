@@ -70,6 +70,7 @@ impl Tape {
     pub fn new(alloc: Global, bytes: Vec<u8>, room: u64) -> Result<Tape, NoMemory>
         ensures bytes { IfOk result (λ t. tape_bytes t ≡ bytes.items) }
         ensures crash { IfOk result (λ t. Only bytes.items (MayLeave t)) }
+        ensures steps { IfOk result (λ t. t.steps ≡ []) }
         ensures room { IfOk result (λ t. t.room ≡ room) }
     {
         let mut first = Vec::new(alloc);

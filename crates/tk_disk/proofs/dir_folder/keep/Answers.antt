@@ -1,4 +1,4 @@
-use Rattle.std.proofs.Common.{◌≡◌, Option, IsSome, refl, subst, sym, ap}
+use Rattle.std.proofs.Common.{Option, IsSome, refl, subst, sym, ap}
 use Rattle.tk_disk.specs.declared.dir_folder.Visit.{Visit}
 use Rattle.tk_disk.specs.DirFolder.{visit_faults}
 use Rattle.tk_disk.proofs.Named.{found-held}
