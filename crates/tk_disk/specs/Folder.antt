@@ -1,5 +1,6 @@
 -- What the calls of a folder do.
-use Rattle.std.specs.Prelude.{◌≡◌, ◌≢◌, ℕ, ◌≤◌, List, [], Bool, false, Option, Some, None, Result, Ok, Err, OnOk, IsErrOf}
+use Rattle.std.specs.Prelude.{◌≡◌, ◌≢◌, ℕ, ◌≤◌, List, [], Bool, false, Option, Some, None, Result, OnOk, IsErrOf}
+use Rattle.tk_disk.specs.Crash.{Within}
 use Rattle.tk_disk.specs.Disk.{Rose}
 use Rattle.tk_disk.specs.declared.disk.DiskError.{DiskError}
 use Rattle.tk_disk.specs.declared.disk.DiskError.TheVariants.{Fault}
@@ -22,3 +23,9 @@ pub record HasFolderCause {T : Type 0} (before now : ℕ) (result : Result T Dis
   pub later : before ≤ now
   pub kept : OnOk result (now ≡ before)
   pub fault : IsErrOf result Fault → Rose before now
+
+-- Of a file, what a crash may leave now, or may have left since a moment, was so before.
+pub record SameHistory (before now : ℕ) (left leaves : List ℕ → Type 0) (past since : ℕ → List ℕ → Type 0) : Type 0 where
+  pub moment : now ≡ before
+  pub crash : Within left leaves
+  pub time : (t : ℕ) → Within (past t) (since t)

@@ -1,3 +1,13 @@
 pub mod Crash
+pub mod DirFolder
 pub mod Disk
+pub mod FileDisk
 pub mod Folder
+pub mod FolderLaws
+pub mod MemDisk
+pub mod MemFolder
+pub mod Memory
+pub mod MemoryLaws
+pub mod Places
+pub mod Replay
+pub mod TapeInside

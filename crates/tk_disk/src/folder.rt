@@ -1,7 +1,7 @@
 ghost use Rattle.std.specs.Prelude.{◌≡◌, ◌≢◌, ◌≤◌, ℕ, List, [], Bool, true, false, IsSome, IfOk, IfSome, IfNone, OnOk, OnErr, OnSome, IsErrOf, Some, None};
 ghost use Rattle.std.specs.declared.option.Option.{Option};
 ghost use Rattle.tk_disk.specs.Disk.{HasCause};
-ghost use Rattle.tk_disk.specs.Folder.{or_empty, SameBut, HasFolderCause};
+ghost use Rattle.tk_disk.specs.Folder.{or_empty, SameBut, SameHistory, HasFolderCause};
 
 use crate::{Disk, DiskError};
 
@@ -24,6 +24,15 @@ pub trait Folder {
     /// The count of faults of the disk last given back under a name, 0 where there was none.
     ghost disk_faults: { Self → List ℕ → ℕ };
 
+    /// What a crash now may leave at a name. Of a file whose disk is out, its disk says it.
+    ghost leaves: { Self → List ℕ → List ℕ → Type 0 };
+
+    /// The moment of a file, as its disk counts it.
+    ghost moment_of: { Self → List ℕ → ℕ };
+
+    /// What a crash at some moment from one on may have left at a name.
+    ghost left_since: { Self → List ℕ → ℕ → List ℕ → Type 0 };
+
     fn faults(&self) -> u64
         ensures { result ≡ fault_count self.now };
 
@@ -43,7 +52,11 @@ pub trait Folder {
         ensures err_same { OnErr result (file self.new name.now ≡ file self.old name.now) }
         ensures counts { (m : List ℕ) → disk_faults self.new m ≡ disk_faults self.old m }
         ensures tells { tells self.new ≡ tells self.old }
-        ensures cause { HasFolderCause (fault_count self.old) (fault_count self.new) result };
+        ensures cause { HasFolderCause (fault_count self.old) (fault_count self.new) result }
+        ensures crash { IfOk result (λ o. IfSome o (λ d. SameHistory (moment_of self.old name.now) (Self.D.moment d) (leaves self.old name.now) (Self.D.may_leave d) (left_since self.old name.now) (Self.D.left_since d))) }
+        ensures none_crash { IfOk result (λ o. IfNone o (SameHistory (moment_of self.old name.now) (moment_of self.new name.now) (leaves self.old name.now) (leaves self.new name.now) (left_since self.old name.now) (left_since self.new name.now))) }
+        ensures err_crash { OnErr result (SameHistory (moment_of self.old name.now) (moment_of self.new name.now) (leaves self.old name.now) (leaves self.new name.now) (left_since self.old name.now) (left_since self.new name.now)) }
+        ensures others_crash { (m : List ℕ) → m ≢ name.now → SameHistory (moment_of self.old m) (moment_of self.new m) (leaves self.old m) (leaves self.new m) (left_since self.old m) (left_since self.new m) };
 
     /// Puts a disk back under its name, also where it answers a fault.
     fn give(&mut self, name: &str, disk: Self::D) -> Result<(), DiskError>
@@ -55,5 +68,16 @@ pub trait Folder {
         ensures others { SameBut name.now (file self.old) (file self.new) }
         ensures others_count { SameBut name.now (disk_faults self.old) (disk_faults self.new) }
         ensures tells { tells self.new ≡ tells self.old }
-        ensures cause { HasCause (fault_count self.old) (fault_count self.new) result };
+        ensures cause { HasCause (fault_count self.old) (fault_count self.new) result }
+        ensures crash { SameHistory (Self.D.moment disk) (moment_of self.new name.now) (Self.D.may_leave disk) (leaves self.new name.now) (Self.D.left_since disk) (left_since self.new name.now) }
+        ensures others_crash { (m : List ℕ) → m ≢ name.now → SameHistory (moment_of self.old m) (moment_of self.new m) (leaves self.old m) (leaves self.new m) (left_since self.old m) (left_since self.new m) };
+
+    /// What a file holds is one of the images.
+    ghost reads_left: { (folder : Self) (name f : List ℕ) → file folder name ≡ Some f → leaves folder name f };
+
+    /// This moment is one of those since an earlier one.
+    ghost counts_now: { (folder : Self) (name : List ℕ) (t : ℕ) (c : List ℕ) → t ≤ moment_of folder name → leaves folder name c → left_since folder name t c };
+
+    /// Since this moment there is no other.
+    ghost only_now: { (folder : Self) (name c : List ℕ) → left_since folder name (moment_of folder name) c → leaves folder name c };
 }

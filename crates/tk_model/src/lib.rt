@@ -4,13 +4,20 @@
 mod bytes;
 mod error;
 mod hash;
+mod law;
 mod list;
+mod order;
+mod place;
+mod plain;
 mod record;
 
 pub use bytes::Bytes;
 pub use error::{NoMemory, OpenError, Unopened};
 pub use hash::{bucket, fnv32, fnv32_from, fnv64, mix, shard};
+pub use law::{changes_are_enough, keys_in_line, records_are_a_map};
 pub use list::ListOf;
+pub use order::{before, compare_keys, is_same};
+pub use plain::PlainMap;
 pub use record::{
     Action, Bound, BytesList, Change, ChangeList, Entry, EntryList, FaultList, Group, GroupList,
     Order, Pair, PairList, ShardOf, Touch, TouchList, Way,

@@ -1,14 +1,14 @@
 use crate::{Bytes, ListOf};
 
 /// A record: a key and its value.
-#[derive(Debug, Drop)]
+#[derive(Clone, Debug, Drop)]
 pub struct Pair {
     pub key: Bytes,
     pub value: Bytes,
 }
 
 /// What a group does to one key, or to all.
-#[derive(Debug, Drop)]
+#[derive(Clone, Debug, Drop)]
 pub enum Change {
     Put(Pair),
     Drop(Bytes),
@@ -16,14 +16,14 @@ pub enum Change {
 }
 
 /// Changes that are made whole or not at all, under one number.
-#[derive(Debug, Drop)]
+#[derive(Clone, Debug, Drop)]
 pub struct Group {
     pub number: u64,
     pub changes: ChangeList,
 }
 
 /// What a record processor answers.
-#[derive(Debug, Drop)]
+#[derive(Clone, Debug, Drop)]
 pub enum Action {
     Keep,
     Put(Bytes),
@@ -31,7 +31,7 @@ pub enum Action {
 }
 
 /// A key, the value that stood there, and what was answered.
-#[derive(Debug, Drop)]
+#[derive(Clone, Debug, Drop)]
 pub struct Touch {
     pub key: Bytes,
     pub was: Option<Bytes>,
@@ -46,7 +46,7 @@ pub enum Way {
 }
 
 /// Where a search begins: at the first record of its way, strictly past a key, or at it.
-#[derive(Debug, Drop)]
+#[derive(Clone, Debug, Drop)]
 pub enum Bound {
     Edge,
     Over(Bytes),
@@ -54,7 +54,7 @@ pub enum Bound {
 }
 
 /// A call of the database, as plain data.
-#[derive(Debug, Drop)]
+#[derive(Clone, Debug, Drop)]
 pub enum Entry {
     Proc(TouchList),
     Next {
@@ -87,10 +87,15 @@ pub struct ShardOf {
 }
 
 pub type BytesList = ListOf<Bytes>;
+
 pub type PairList = ListOf<Pair>;
+
 pub type ChangeList = ListOf<Change>;
+
 pub type GroupList = ListOf<Group>;
+
 pub type TouchList = ListOf<Touch>;
+
 pub type EntryList = ListOf<Entry>;
 
 /// The numbers of calls, counted from 0, that are to fail.

@@ -1,4 +1,6 @@
 use super::*;
+use std::alloc::Global;
+use std::process::Abort;
 use std::test::Fail;
 
 #[test]
@@ -10,4 +12,136 @@ fn hashes_of_the_public_vectors(rt: HostRuntime) {
     assert_eq!(rt; fnv64(b"a"), 0xaf63dc4c8601ec8c);
     assert_eq!(rt; fnv64(b"foobar"), 0x85944171f73967e8);
     assert_eq!(rt; fnv32_from(fnv32(b"foo"), b"bar"), 0xbf9cf968);
+}
+
+fn rises(rt: &impl Abort, order: Order, keys: &str) {
+    let mut last: Option<&str> = None;
+    for key in keys.split(' ') {
+        assert!(rt; !before(&order, key.as_bytes(), key.as_bytes()), "{key}");
+        if let Some(last) = last {
+            assert!(rt;
+                before(&order, last.as_bytes(), key.as_bytes()),
+                "{last} {key}"
+            );
+            assert!(rt;
+                !before(&order, key.as_bytes(), last.as_bytes()),
+                "{last} {key}"
+            );
+        }
+        last = Some(key);
+    }
+}
+
+#[test]
+fn keys_in_their_orders(rt: HostRuntime) {
+    rises(&rt, Order::Hash, "k1 b c k2 a d k3 ab ");
+    rises(&rt, Order::Bytes, " 0 10 2 A AB B Z [ a ab ~ é");
+    rises(&rt, Order::Case, " @ [ A a AB Ab aB ab ABC B b Z z {");
+    // Numbers that are held at the least, then negative ones, 0 in many spellings, positive ones, and those held at the greatest.
+    rises(
+        &rt,
+        Order::Decimal,
+        "-0170141183460469231731687303715884105728 -170141183460469231731687303715884105727 -9999999999999999999999999999999999999999 -170141183460469231731687303715884105726 -10 -2 -1",
+    );
+    rises(
+        &rt,
+        Order::Decimal,
+        "-1  + +-1 +0 - --5 -0 0 00 0x9 a1 +1 01 1 1x 2 9z +010 10 100 18446744073709551616 170141183460469231731687303715884105726",
+    );
+    rises(
+        &rt,
+        Order::Decimal,
+        "170141183460469231731687303715884105726 +170141183460469231731687303715884105727 00170141183460469231731687303715884105727 170141183460469231731687303715884105727 170141183460469231731687303715884105728 9999999999999999999999999999999999999999",
+    );
+    rises(
+        &rt,
+        Order::Hex,
+        " +1 0 00 0x1F G1 x 01 1 1g 9 0A A a FF Ff fF ff 100 7ffffffffffffffffffffffffffffffe",
+    );
+    rises(
+        &rt,
+        Order::Hex,
+        "7ffffffffffffffffffffffffffffffe 000000007fffffffffffffffffffffffffffffff 7fffffffffffffffffffffffffffffff 80000000000000000000000000000000 ffffffffffffffffffffffffffffffffffffffff",
+    );
+}
+
+fn touch(alloc: Global, key: &str, was: Option<&str>, action: Action) -> Result<Touch, Fail> {
+    let key = Bytes::from_slice(alloc, key.as_bytes())?;
+    let was = match was {
+        Some(was) => Some(Bytes::from_slice(alloc, was.as_bytes())?),
+        None => None,
+    };
+    Ok(Touch { key, was, action })
+}
+
+fn put(alloc: Global, value: &str) -> Result<Action, Fail> {
+    Ok(Action::Put(Bytes::from_slice(alloc, value.as_bytes())?))
+}
+
+fn proc(alloc: Global, touch: Touch) -> Result<Entry, Fail> {
+    let mut touches = TouchList::new(alloc);
+    touches.push(touch)?;
+    Ok(Entry::Proc(touches))
+}
+
+fn shows(map: &PlainMap, text: &str) -> bool {
+    let mut words = text.split(' ');
+    for pair in map.pairs().as_slice() {
+        if words
+            .next()
+            .map(|word| word.as_bytes() == pair.key.as_slice())
+            != Some(true)
+            || words
+                .next()
+                .map(|word| word.as_bytes() == pair.value.as_slice())
+                != Some(true)
+        {
+            return false;
+        }
+    }
+    words.next().is_none()
+}
+
+#[test]
+fn calls_on_the_plain_machine(rt: HostRuntime) -> Result<(), Fail> {
+    let alloc = rt.alloc();
+    let mut map = PlainMap::new(alloc, Order::Bytes);
+    assert!(rt; map.run(&proc(alloc, touch(alloc, "b", None, put(alloc, "2")?)?)?)?);
+    assert!(rt; map.run(&proc(alloc, touch(alloc, "a", None, put(alloc, "1")?)?)?)?);
+    assert!(rt; shows(&map, "a 1 b 2"));
+    // A wrong old value is refused, and nothing changes.
+    assert!(rt; !map.run(&proc(alloc, touch(alloc, "a", Some("2"), Action::Drop)?)?)?);
+    assert!(rt; !map.run(&proc(alloc, touch(alloc, "c", Some(""), put(alloc, "3")?)?)?)?);
+    assert!(rt; shows(&map, "a 1 b 2"));
+
+    let mut each = TouchList::new(alloc);
+    each.push(touch(alloc, "a", Some("1"), Action::Keep)?)?;
+    each.push(touch(alloc, "b", Some("2"), put(alloc, "4")?)?)?;
+    assert!(rt; map.run(&Entry::Each(each))?);
+    assert!(rt; !map.run(&Entry::Each(TouchList::new(alloc)))?);
+    assert!(rt; map.run(&Entry::Count(2))? && !map.run(&Entry::Count(3))?);
+    assert!(rt; shows(&map, "a 1 b 4"));
+
+    let pair = Pair {
+        key: Bytes::from_slice(alloc, b"a")?,
+        value: Bytes::from_slice(alloc, b"1")?,
+    };
+    let past = Entry::Next {
+        way: Way::Down,
+        bound: Bound::Over(Bytes::from_slice(alloc, b"b")?),
+        found: Some(pair),
+        action: Action::Drop,
+    };
+    assert!(rt; map.run(&past)? && !map.run(&past)?);
+    assert!(rt; shows(&map, "b 4"));
+    assert!(rt; map.run(&Entry::Clear)? && map.run(&Entry::Sync(true))?);
+    assert!(rt; map.pairs().is_empty());
+    let none = Entry::Next {
+        way: Way::Up,
+        bound: Bound::Edge,
+        found: None,
+        action: Action::Keep,
+    };
+    assert!(rt; map.run(&none)?);
+    Ok(())
 }

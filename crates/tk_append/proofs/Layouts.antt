@@ -1,0 +1,174 @@
+-- Blocks one after another, their links and their text.
+use Rattle.std.proofs.Common.{◌≡◌, ℕ, zero, suc, ◌+◌, ◌<◌, ◌≤◌, Bool, true, false, eqb, List, [], ◌∷◌, ◌++◌, length, get_or, take, drop, refl, sym, ◌∙◌, ap, inl, inr, add-one, arith, append_assoc, length-append}
+use Rattle.std.specs.Prelude.{◌-◌, replicate}
+use Rattle.std.specs.Int.{w32, w64, to_be_bytes}
+use Rattle.std.proofs.lemmas.List.{length-replicate, length-take, take_all, drop_all}
+use Rattle.std.proofs.lemmas.Bool.{eq-eqb, ne_eqb, cases_eq}
+use Rattle.tk_block.specs.Text.{checked, check_number, head_text}
+use Rattle.tk_block.proofs.Heads.{length-head_text}
+use Rattle.std.proofs.lemmas.List.{append-nil}
+use Rattle.tk_model.specs.declared.record.Pair.{Pair}
+use Rattle.tk_model.specs.declared.record.Change.TheVariants.{Put}
+use Rattle.tk_block.specs.declared.block.Body.{Body}
+use Rattle.tk_block.specs.Blocks.{IsSmall, extent_of, body_of, is_nil, block_text, numbers_text, body_front, room_of}
+use Rattle.tk_block.specs.Layout.{Placed, laid, end_of, newest, renewed, link_of, links_of, texts, first_or_none}
+use Rattle.tk_append.specs.Fresh.{fresh_bodies, AllPairsSmall}
+use Rattle.std.specs.Prelude.{◌||◌}
+use Rattle.std.proofs.Math.Seq.{drop-nil}
+
+pub newest-append : (p b f : ℕ) (xs ys : List Placed) → newest p b f (xs ++ ys) ≡ newest p b (newest p b f xs) ys
+newest-append p b f [] ys = refl
+newest-append p b f (x ∷ xs) ys = newest-append p b (renewed p b f x) xs ys
+
+pub laid-append : (place : ℕ) (xs ys : List Body) → laid place (xs ++ ys) ≡ laid place xs ++ laid (end_of place xs) ys
+laid-append place [] ys = refl
+laid-append place (x ∷ xs) ys = ap (λ (l : List Placed). record { place = place; body = x } ∷ l) (laid-append (place + extent_of x) xs ys)
+
+pub end_of-append : (place : ℕ) (xs ys : List Body) → end_of place (xs ++ ys) ≡ end_of (end_of place xs) ys
+end_of-append place [] ys = refl
+end_of-append place (x ∷ xs) ys = end_of-append (place + extent_of x) xs ys
+
+pub links_of-append : (p : ℕ) (before xs ys : List Placed) → links_of p before (xs ++ ys) ≡ links_of p before xs ++ links_of p (before ++ xs) ys
+links_of-append p before [] ys = ap (λ (l : List Placed). links_of p l ys) (sym (append-nil before))
+links_of-append p before (x ∷ xs) ys =
+    ap (λ (l : List ℕ). link_of p before x.body ∷ l)
+    (links_of-append p (before ++ x ∷ []) xs ys
+    ∙ ap (λ (l : List Placed). links_of p (before ++ x ∷ []) xs ++ links_of p l ys) (append_assoc before (x ∷ []) xs))
+
+pub length-links_of : (p : ℕ) (before xs : List Placed) → length (links_of p before xs) ≡ length xs
+length-links_of p before [] = refl
+length-links_of p before (x ∷ xs) = ap suc (length-links_of p (before ++ x ∷ []) xs)
+
+pub length-laid : (place : ℕ) (xs : List Body) → length (laid place xs) ≡ length xs
+length-laid place [] = refl
+length-laid place (x ∷ xs) = ap suc (length-laid (place + extent_of x) xs)
+
+drop_one : (n : ℕ) (l : List ℕ) → drop n (drop 1 l) ≡ drop (suc n) l
+drop_one n [] = drop-nil n
+drop_one n (y ∷ l) = refl
+
+pub texts-append : (xs ys : List Placed) (links : List ℕ) → texts (xs ++ ys) links ≡ texts xs links ++ texts ys (drop (length xs) links)
+texts-append [] ys links = refl
+texts-append (x ∷ xs) ys links =
+    ap (λ (l : List ℕ). block_text x.body x.place (first_or_none links) ++ l) (texts-append xs ys (drop 1 links) ∙ ap (λ (l : List ℕ). texts xs (drop 1 links) ++ texts ys l) (drop_one (length xs) links))
+    ∙ sym (append_assoc (block_text x.body x.place (first_or_none links)) (texts xs (drop 1 links)) (texts ys (drop (suc (length xs)) links)))
+
+-- one block more of fresh records
+pub fresh-take : (each : Bool) (pairs : List Pair) (i : ℕ) (d : Pair) → i < length pairs
+    → take (suc i) (fresh_bodies each pairs) ≡ take i (fresh_bodies each pairs) ++ body_of 0 (Put (get_or pairs i d)) (each || is_nil (drop (suc i) pairs)) ∷ []
+fresh-take each [] i d within = absurd (omega arith)
+fresh-take each (p ∷ ps) zero d within = refl
+fresh-take each (p ∷ ps) (suc i) d within = ap (λ (l : List Body). body_of 0 (Put p) (each || is_nil ps) ∷ l) (fresh-take each ps i d (omega arith))
+
+pub bodies-more : (each : Bool) (pairs : List Pair) (i : ℕ) (pair : Pair) → i < length pairs → pair ≡ get_or pairs i pair
+    → take (i + 1) (fresh_bodies each pairs) ≡ take i (fresh_bodies each pairs) ++ body_of 0 (Put pair) (each || is_nil (drop (suc i) pairs)) ∷ []
+bodies-more each pairs i pair within is =
+    ap (λ (k : ℕ). take k (fresh_bodies each pairs)) (add-one i) ∙ fresh-take each pairs i pair within
+    ∙ ap (λ (q : Pair). take i (fresh_bodies each pairs) ++ body_of 0 (Put q) (each || is_nil (drop (suc i) pairs)) ∷ []) (sym is)
+
+pub length-fresh_bodies : (each : Bool) (pairs : List Pair) → length (fresh_bodies each pairs) ≡ length pairs
+length-fresh_bodies each [] = refl
+length-fresh_bodies each (p ∷ ps) = ap suc (length-fresh_bodies each ps)
+
+pub small_at : (pairs : List Pair) (i : ℕ) (d : Pair) → AllPairsSmall pairs → i < length pairs → IsSmall (get_or pairs i d).key (get_or pairs i d).value
+small_at [] i d small within = absurd (omega arith)
+small_at (p ∷ ps) zero d small within = small.0
+small_at (p ∷ ps) (suc i) d small within = small_at ps i d small.1 (omega arith)
+
+-- an end is no less than that of a front
+pub end_of-take : (place i : ℕ) (bodies : List Body) → end_of place (take i bodies) ≤ end_of place bodies
+end_of-take place zero [] = omega arith
+end_of-take place zero (b ∷ bs) = omega (arith, end_of-take (place + extent_of b) zero bs)
+end_of-take place (suc i) [] = omega arith
+end_of-take place (suc i) (b ∷ bs) = end_of-take (place + extent_of b) i bs
+
+-- a block is as long as its extent
+pub length-block_text : (b : Body) (place link : ℕ) → length (block_text b place link) ≡ extent_of b
+unfolding block_text checked numbers_text
+length-block_text b place link =
+    let head = head_text (extent_of b) place in
+    let link_bytes = to_be_bytes w64 link in
+    let front = body_front b in
+    let check_bytes = to_be_bytes w32 (check_number front place) in
+    let pad : List ℕ = replicate (extent_of b - room_of b) 0 in
+    omega (
+      arith,
+      length-append ((head ++ link_bytes) ++ (front ++ check_bytes)) pad,
+      length-append (head ++ link_bytes) (front ++ check_bytes),
+      length-append head link_bytes,
+      length-append front check_bytes,
+      length-append (numbers_text b ++ b.key) b.value,
+      length-append (numbers_text b) b.key,
+      length-replicate {A = ℕ} (extent_of b - room_of b) 0,
+      length-head_text (extent_of b) place,
+    )
+
+is_nil-drop : (pairs : List Pair) (k : ℕ) → k < length pairs → is_nil (drop k pairs) ≡ false
+is_nil-drop [] k within = absurd (omega arith)
+is_nil-drop (p ∷ ps) zero within = refl
+is_nil-drop (p ∷ ps) (suc k) within = is_nil-drop ps k (omega arith)
+
+-- the flag of the block at i
+pub flag_at : (pairs : List Pair) (i : ℕ) → i < length pairs → is_nil (drop (suc i) pairs) ≡ eqb (i + 1) (length pairs)
+flag_at pairs i within = elim (cases_eq (i + 1) (length pairs)) [
+  | inl e ↦ ap is_nil (drop_all (suc i) pairs (omega (arith, e))) ∙ sym (eq-eqb _ _ e)
+  | inr ne ↦ is_nil-drop pairs (suc i) (omega (arith, ne)) ∙ sym (ne_eqb _ _ ne)
+]
+
+-- a text with a block more
+pub length-grown : (new old : List ℕ) (b : Body) (place link : ℕ) → new ≡ old ++ block_text b place link → length new ≡ length old + extent_of b
+length-grown new old b place link is = omega (arith, ap length is, length-append old (block_text b place link), length-block_text b place link)
+
+-- the end behind one record more
+pub end_of-more : (place : ℕ) (each : Bool) (pairs : List Pair) (i : ℕ) (pair : Pair) (last : Bool) → i < length pairs → pair ≡ get_or pairs i pair
+    → end_of place (take (i + 1) (fresh_bodies each pairs)) ≡ end_of place (take i (fresh_bodies each pairs)) + extent_of (body_of 0 (Put pair) last)
+end_of-more place each pairs i pair last within is =
+    ap (λ (l : List Body). end_of place l) (bodies-more each pairs i pair within is)
+    ∙ end_of-append place (take i (fresh_bodies each pairs)) (body_of 0 (Put pair) (each || is_nil (drop (suc i) pairs)) ∷ [])
+
+-- the blocks with one record more
+pub laid-more : (base : ℕ) (each : Bool) (pairs : List Pair) (i : ℕ) (pair : Pair) → i < length pairs → pair ≡ get_or pairs i pair
+    → laid base (take (i + 1) (fresh_bodies each pairs))
+    ≡ laid base (take i (fresh_bodies each pairs)) ++ record { place = end_of base (take i (fresh_bodies each pairs)); body = body_of 0 (Put pair) (each || is_nil (drop (suc i) pairs)) } ∷ []
+laid-more base each pairs i pair within is =
+    ap (λ (l : List Body). laid base l) (bodies-more each pairs i pair within is)
+    ∙ laid-append base (take i (fresh_bodies each pairs)) (body_of 0 (Put pair) (each || is_nil (drop (suc i) pairs)) ∷ [])
+
+first-drop : (links : List ℕ) (i : ℕ) → first_or_none (drop i links) ≡ get_or links i 0
+first-drop [] i = ap first_or_none (drop-nil i)
+first-drop (x ∷ xs) zero = refl
+first-drop (x ∷ xs) (suc i) = first-drop xs i
+
+-- the text with one record more
+pub texts-more : (base : ℕ) (each : Bool) (pairs : List Pair) (links : List ℕ) (i : ℕ) (pair : Pair) (last : Bool) (place link : ℕ) (text : List ℕ)
+    → i < length pairs → pair ≡ get_or pairs i pair → last ≡ (each || eqb (i + 1) (length pairs)) → place ≡ end_of base (take i (fresh_bodies each pairs)) → link ≡ get_or links i 0
+    → (text ++ texts (laid base (take i (fresh_bodies each pairs))) links) ++ block_text (body_of 0 (Put pair) last) place link
+    ≡ text ++ texts (laid base (take (i + 1) (fresh_bodies each pairs))) links
+texts-more base each pairs links i pair last place link text within is flagged placed linked =
+    let before : List Placed = laid base (take i (fresh_bodies each pairs)) in
+    let count : length before ≡ i = length-laid base (take i (fresh_bodies each pairs)) ∙ omega (arith, length-take i (fresh_bodies each pairs), length-fresh_bodies each pairs) in
+    let tail : block_text (body_of 0 (Put pair) last) place link
+    ≡ texts (record { place = end_of base (take i (fresh_bodies each pairs)); body = body_of 0 (Put pair) (each || is_nil (drop (suc i) pairs)) } ∷ []) (drop (length before) links) =
+    ap (λ (b : Bool). block_text (body_of 0 (Put pair) b) place link) (flagged ∙ ap (λ (b : Bool). each || b) (sym (flag_at pairs i within)))
+    ∙ ap (λ (n : ℕ). block_text (body_of 0 (Put pair) (each || is_nil (drop (suc i) pairs))) n link) placed
+    ∙ ap (λ (n : ℕ). block_text (body_of 0 (Put pair) (each || is_nil (drop (suc i) pairs))) (end_of base (take i (fresh_bodies each pairs))) n)
+    (linked ∙ sym (first-drop links i) ∙ ap (λ (k : ℕ). first_or_none (drop k links)) (sym count))
+    ∙ sym (append-nil _) in
+    append_assoc text (texts before links) (block_text (body_of 0 (Put pair) last) place link)
+    ∙ ap (λ (l : List ℕ). text ++ (texts before links ++ l)) tail
+    ∙ ap (λ (l : List ℕ). text ++ l) (sym (texts-append before _ links))
+    ∙ ap (λ (l : List Placed). text ++ texts l links) (sym (laid-more base each pairs i pair within is))
+
+-- all records
+pub taken_all : (each : Bool) (pairs : List Pair) (i : ℕ) → length pairs ≤ i → take i (fresh_bodies each pairs) ≡ fresh_bodies each pairs
+taken_all each pairs i past = take_all i (fresh_bodies each pairs) (omega (arith, length-fresh_bodies each pairs))
+
+-- where blocks end does not hang on their flags
+pub end_of-each : (place : ℕ) (each other : Bool) (pairs : List Pair) → end_of place (fresh_bodies each pairs) ≡ end_of place (fresh_bodies other pairs)
+end_of-each place each other [] = refl
+end_of-each place each other (p ∷ ps) = end_of-each (place + extent_of (body_of 0 (Put p) true)) each other ps
+
+-- no end is before the base
+pub end_of-least : (place : ℕ) (bodies : List Body) → place ≤ end_of place bodies
+end_of-least place [] = omega arith
+end_of-least place (b ∷ bs) = omega (arith, end_of-least (place + extent_of b) bs)

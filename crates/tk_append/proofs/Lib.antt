@@ -1,0 +1,4 @@
+pub mod ChainsSteps
+pub mod FreshSteps
+pub mod Layouts
+pub mod PiecesSteps

@@ -1,0 +1,9 @@
+//! Files of blocks on a disk.
+#![tactic(auto)]
+
+mod blocks;
+mod chains;
+mod fresh;
+mod pieces;
+
+pub use fresh::write_fresh;

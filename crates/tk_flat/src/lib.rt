@@ -1,0 +1,16 @@
+//! Two texts of a list of records: flat text, and lines of two fields with a TAB between them.
+#![tactic(auto)]
+
+mod error;
+mod field;
+mod flat;
+mod search;
+mod tsv;
+
+pub use error::TextError;
+pub use field::{escape, unescape};
+pub use flat::{FlatRecord, read_flat, record_at, write_flat, write_record};
+pub use tsv::{next_line, read_tsv, write_tsv};
+
+#[cfg(test)]
+mod tests;

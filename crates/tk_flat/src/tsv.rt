@@ -1,0 +1,108 @@
+ghost use Rattle.std.specs.Prelude.{◌≡◌, ◌≢◌, ◌<◌, ◌++◌, ◌∷◌, [], ℕ, List, All, length, map, Ok, Err, IfErr, IfOk, OnOk, OnErr, Some};
+ghost use Rattle.tk_model.specs.declared.record.Pair.{Pair};
+ghost use Rattle.tk_flat.specs.Errors.{Answers, Extends, Names};
+ghost use Rattle.tk_flat.specs.Tsv.{IsFirstBadLine, IsSmall, IsTsv, line_body, line_text, lines_of, pair_from, pair_in, tsv_text};
+
+use crate::TextError;
+use crate::field::{escape, unescape};
+use crate::search::cut;
+use std::alloc::Global;
+use tk_model::{Bytes, NoMemory, Pair, PairList};
+
+const MAX_KEY: usize = 65_535;
+
+const MAX_VALUE: usize = 16_777_215;
+
+#[tactic(auto, using(crate::proofs::Lines::line_at, crate::proofs::Lines::line_last))]
+/// The first line, without its LF, and the bytes behind it. The last LF may be missing.
+pub fn next_line(bytes: &[u8]) -> (&[u8], &[u8])
+    requires { 0 < length bytes.now }
+    ensures line { lines_of bytes.now ≡ result.0.now ∷ lines_of result.1.now }
+    ensures shorter { length result.1.now < length bytes.now }
+{
+    match cut(b'\n', bytes) {
+        Some((line, behind)) => (line, behind),
+        None => (bytes, &[]),
+    }
+}
+
+fn small_pair(key: Option<Bytes>, value: Option<Bytes>) -> Option<Pair>
+    ensures { result ≡ pair_from key value }
+{
+    let key = key?;
+    let value = value?;
+    if key.len() <= MAX_KEY && value.len() <= MAX_VALUE {
+        Some(Pair { key, value })
+    } else {
+        None
+    }
+}
+
+#[tactic(auto, using(crate::proofs::Lines::fields_read))]
+fn read_line(alloc: Global, line: &[u8]) -> Result<Option<Pair>, NoMemory>
+    ensures { IfOk result (λ pair. pair ≡ pair_in line.now) }
+{
+    let Some((key, value)) = cut(b'\t', line) else {
+        return Ok(None);
+    };
+    let None = cut(b'\t', value) else {
+        return Ok(None);
+    };
+    let key = unescape(alloc, key)?;
+    let value = unescape(alloc, value)?;
+    Ok(small_pair(key, value))
+}
+
+fn read_lines(alloc: Global, bytes: &[u8]) -> Result<PairList, TextError>
+    ensures read { IfOk result (λ pairs. IsTsv bytes.now pairs) }
+    ensures line { IfErr result (Names (IsFirstBadLine bytes.now)) }
+{
+    let mut pairs = PairList::new(alloc);
+    let mut rest = bytes;
+    while !rest.is_empty() {
+        let (line, behind) = next_line(rest);
+        let Some(pair) = read_line(alloc, line)? else {
+            return Err(TextError::At(pairs.len() as u64 + 1));
+        };
+        pairs.push(pair)?;
+        rest = behind;
+    }
+    Ok(pairs)
+}
+
+#[tactic(auto, using(crate::proofs::TsvJudged::tsv_accepted, crate::proofs::TsvJudged::tsv_refused))]
+/// The records of a text of lines.
+pub fn read_tsv(alloc: Global, bytes: &[u8]) -> Result<PairList, TextError>
+    ensures read { IfOk result (λ pairs. IsTsv bytes.now pairs) }
+    ensures line { IfErr result (Names (IsFirstBadLine bytes.now)) }
+    ensures accepted { (pairs : List Pair) → IsTsv bytes.now pairs → Answers (Ok pairs) result }
+    ensures refused { (line : ℕ) → IsFirstBadLine bytes.now line → Answers (Err (TextError.At line)) result }
+{
+    read_lines(alloc, bytes)
+}
+
+#[tactic(auto, using(crate::proofs::Lists::Extends_then, crate::proofs::Lists::Extends_by, crate::proofs::Lists::Extends_same))]
+fn write_line(pair: &Pair, out: &mut Bytes) -> Result<(), NoMemory>
+    ensures ok { OnOk result (out.new ≡ out.old ++ line_text pair.now) }
+    ensures err { OnErr result (Extends out.old out.new) }
+    ensures back { OnOk result (IsSmall pair.now → pair_in (line_body pair.now) ≡ Some pair.now) }
+{
+    escape(pair.key.as_slice(), out)?;
+    out.push(b'\t')?;
+    escape(pair.value.as_slice(), out)?;
+    out.push(b'\n')?;
+    Ok(())
+}
+
+#[tactic(auto, using(crate::proofs::Lists::Extends_then, crate::proofs::Lists::Extends_by))]
+/// Puts records at the end, a line for each.
+pub fn write_tsv(pairs: &PairList, out: &mut Bytes) -> Result<(), NoMemory>
+    ensures ok { OnOk result (out.new ≡ out.old ++ tsv_text pairs.now) }
+    ensures err { OnErr result (Extends out.old out.new) }
+    ensures back { OnOk result (All IsSmall pairs.now → IsTsv (tsv_text pairs.now) pairs.now) }
+{
+    for pair in pairs.as_slice() {
+        write_line(pair, out)?;
+    }
+    Ok(())
+}

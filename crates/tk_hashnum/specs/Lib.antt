@@ -1,0 +1,2 @@
+pub use Rattle.tk_model.specs.Hashes
+pub mod Stripes

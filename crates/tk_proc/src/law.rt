@@ -1,0 +1,13 @@
+//! Laws, as functions that do nothing.
+ghost use Rattle.tk_proc.specs.RunLaws.{RunsAreLegal, OneKeyChanges};
+
+use crate::RecordProcessor;
+use tk_model::Order;
+
+/// What a processor does is a legal call.
+pub fn runs_are_legal<P: RecordProcessor>(_: &P, order: Order)
+    ensures legal { RunsAreLegal P.acts P.turns order }
+    ensures one { OneKeyChanges P.acts P.turns order }
+{
+    let _ = order;
+}

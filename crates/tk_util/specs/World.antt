@@ -1,0 +1,6 @@
+-- What a command finds and leaves.
+use Rattle.std.specs.Prelude.{ℕ, List, Option}
+
+pub record World : Type 0 where
+  -- what the file at a name holds, where there is one
+  pub files : List ℕ → Option (List ℕ)

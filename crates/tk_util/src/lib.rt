@@ -1,0 +1,11 @@
+//! The commands that one caller runs.
+#![tactic(auto)]
+
+mod run;
+mod set;
+mod words;
+
+pub use run::run_util;
+
+#[cfg(test)]
+mod tests;

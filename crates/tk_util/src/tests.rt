@@ -1,0 +1,192 @@
+ghost use Rattle.std.specs.Prelude.{IfOk};
+ghost use Rattle.tk_disk.specs.Folder.{NoneOut};
+ghost use Rattle.tk_disk.specs.MemFolder.{folder_is_out};
+
+use super::*;
+use std::alloc::{AllocError, Global};
+use std::test::Fail;
+use tk_disk::{MemDisk, MemFolder};
+use tk_model::{Bytes, FaultList, NoMemory, fnv64};
+use tk_status::Finish;
+
+/// The room that the disk of a first set needs: two writes and two synchronisations.
+const ROOM: u64 = 64 + 8304 + 64 + 64 + 64 + 64;
+
+fn words(alloc: Global, texts: &[&str]) -> Result<Vec<String>, AllocError> {
+    let mut words = Vec::new(alloc);
+    for text in texts {
+        words.push(String::from_str(alloc, text)?)?;
+    }
+    Ok(words)
+}
+
+/// A text of so many letters.
+fn long_text(alloc: Global, letter: char, length: usize) -> Result<String, AllocError> {
+    let mut text = String::new(alloc);
+    for _done in 0..length {
+        text.push(letter)?;
+    }
+    Ok(text)
+}
+
+fn list_of(alloc: Global, calls: &[u64]) -> Result<FaultList, NoMemory> {
+    let mut list = FaultList::new(alloc);
+    for call in calls {
+        list.push(*call)?;
+    }
+    Ok(list)
+}
+
+type Sum = Option<(usize, u64)>;
+
+/// The length of the first file and the hash of its bytes, to compare long files by.
+fn sum_of(folder: &MemFolder) -> Sum
+    requires { NoneOut (folder_is_out folder.now) }
+{
+    match folder.bytes("x.tkh") {
+        Some(bytes) => Some((bytes.len(), fnv64(bytes))),
+        None => None,
+    }
+}
+
+/// Runs a command, and tells its end and what the file holds then.
+fn run_in(alloc: Global, words: &[String], folder: &mut MemFolder) -> (Finish, Sum)
+    requires { NoneOut (folder_is_out folder.old) }
+    ensures { NoneOut (folder_is_out folder.new) }
+{
+    let finish = run_util(alloc, words, folder);
+    (finish, sum_of(folder))
+}
+
+/// Runs a command in an empty folder whose disks have this room.
+fn run_anew(alloc: Global, words: &[String], room: u64, faults: FaultList) -> (Finish, Sum) {
+    let mut folder = MemFolder::new(alloc, room, faults);
+    run_in(alloc, words, &mut folder)
+}
+
+/// A folder whose one file has these bytes, and whose disk fails at these calls.
+fn folder_of(alloc: Global, bytes: &[u8], faults: &[u64]) -> Result<MemFolder, NoMemory>
+    ensures { IfOk result (λ f. NoneOut (folder_is_out f)) }
+{
+    let mut folder = MemFolder::new(alloc, 100_000, list_of(alloc, &[])?);
+    let bytes = Bytes::from_slice(alloc, bytes)?;
+    let disk = MemDisk::new(alloc, bytes, 100_000, list_of(alloc, faults)?)?;
+    folder.add("x.tkh", disk)?;
+    Ok(folder)
+}
+
+#[test]
+fn records_at_the_limits(rt: HostRuntime) -> Result<(), Fail> {
+    let alloc = rt.alloc();
+    let set = words(alloc, &["set", "x.tkh", "a", "1"])?;
+    let none = list_of(alloc, &[])?;
+    assert_eq!(rt;
+        run_anew(alloc, &set, 100_000, none),
+        (Finish::with(0), Some((8304, 0x3e052bc8c54a6f47)))
+    );
+    let set = words(alloc, &["set", "x.tkh", "", ""])?;
+    let none = list_of(alloc, &[])?;
+    assert_eq!(rt;
+        run_anew(alloc, &set, 100_000, none),
+        (Finish::with(0), Some((8304, 0x77196820cc7ba6aa)))
+    );
+    let key = long_text(alloc, 'k', 65_535)?;
+    let set = words(alloc, &["set", "x.tkh", key.as_str(), "v"])?;
+    let none = list_of(alloc, &[])?;
+    assert_eq!(rt;
+        run_anew(alloc, &set, 100_000, none),
+        (Finish::with(0), Some((73_840, 0xee7e0f05221ddfd1)))
+    );
+    let value = long_text(alloc, 'v', 16_777_215)?;
+    let set = words(alloc, &["set", "x.tkh", "k", value.as_str()])?;
+    let none = list_of(alloc, &[])?;
+    assert_eq!(rt;
+        run_anew(alloc, &set, 20_000_000, none),
+        (Finish::with(0), Some((16_785_520, 0x2a0a1ba83feb478a)))
+    );
+    Ok(())
+}
+
+/// Whether the words are refused, and nothing is made.
+fn is_usage(alloc: Global, texts: &[&str]) -> Result<bool, NoMemory> {
+    let none = list_of(alloc, &[])?;
+    let words = words(alloc, texts)?;
+    Ok(run_anew(alloc, &words, 100_000, none) == (Finish::with(1), None))
+}
+
+#[test]
+fn words_out_of_the_grammar(rt: HostRuntime) -> Result<(), Fail> {
+    let alloc = rt.alloc();
+    let key = long_text(alloc, 'k', 65_536)?;
+    let value = long_text(alloc, 'v', 16_777_216)?;
+    assert!(rt; is_usage(alloc, &[])?);
+    assert!(rt; is_usage(alloc, &["set", "x.tkh", "a"])?);
+    assert!(rt; is_usage(alloc, &["set", "x.tkh", "a", "1", "2"])?);
+    assert!(rt; is_usage(alloc, &["get", "x.tkh", "a", "1"])?);
+    assert!(rt; is_usage(alloc, &["set", "x.tkt", "a", "1"])?);
+    assert!(rt; is_usage(alloc, &["set", "tkh", "a", "1"])?);
+    assert!(rt; is_usage(alloc, &["set", "x.tkh", "--", "1"])?);
+    assert!(rt; is_usage(alloc, &["set", "x.tkh", key.as_str(), "1"])?);
+    assert!(rt; is_usage(alloc, &["set", "x.tkh", "a", value.as_str()])?);
+    Ok(())
+}
+
+#[test]
+fn a_file_that_has_bytes(rt: HostRuntime) -> Result<(), Fail> {
+    let alloc = rt.alloc();
+    let set = words(alloc, &["set", "x.tkh", "a", "1"])?;
+    let mut folder = folder_of(alloc, b"?", &[])?;
+    assert_eq!(rt;
+        run_in(alloc, &set, &mut folder),
+        (Finish::refused(0, 0), Some((1, fnv64(b"?"))))
+    );
+    let mut folder = folder_of(alloc, b"", &[])?;
+    assert_eq!(rt; run_in(alloc, &set, &mut folder).0, Finish::with(0));
+    assert_eq!(rt;
+        run_in(alloc, &set, &mut folder),
+        (Finish::refused(0, 0), Some((8304, 0x3e052bc8c54a6f47)))
+    );
+    Ok(())
+}
+
+#[test]
+fn each_small_room(rt: HostRuntime) -> Result<(), Fail> {
+    let alloc = rt.alloc();
+    let set = words(alloc, &["set", "x.tkh", "a", "1"])?;
+    for room in 0..ROOM {
+        let none = list_of(alloc, &[])?;
+        assert_eq!(rt;
+            run_anew(alloc, &set, room, none).0,
+            Finish::with(4),
+            "room {room}"
+        );
+    }
+    let none = list_of(alloc, &[])?;
+    assert_eq!(rt; run_anew(alloc, &set, ROOM, none).0, Finish::with(0));
+    Ok(())
+}
+
+#[test]
+fn each_failing_call(rt: HostRuntime) -> Result<(), Fail> {
+    let alloc = rt.alloc();
+    let set = words(alloc, &["set", "x.tkh", "a", "1"])?;
+    for call in 0..2 {
+        let one = list_of(alloc, &[call])?;
+        assert_eq!(rt;
+            run_anew(alloc, &set, 100_000, one).0,
+            Finish::with(4),
+            "folder's call {call}"
+        );
+    }
+    for call in 0..5 {
+        let mut folder = folder_of(alloc, b"", &[call])?;
+        assert_eq!(rt;
+            run_in(alloc, &set, &mut folder).0,
+            Finish::with(4),
+            "disk's call {call}"
+        );
+    }
+    let mut folder = folder_of(alloc, b"", &[5])?;
+    assert_eq!(rt; run_in(alloc, &set, &mut folder).0, Finish::with(0));
+    Ok(())
+}
