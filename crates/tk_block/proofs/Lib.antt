@@ -1,3 +1,4 @@
+pub mod BlockReads
 pub mod Bodies
 pub mod BodyGrammar
 pub mod Cells

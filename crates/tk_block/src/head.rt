@@ -48,6 +48,8 @@ pub fn read_head(bytes: &[u8], place: u64) -> Option<u64>
     }
 }
 
+/// The part of a header that is written once. Kinds: 1 appending, 2 updating, 3 tree pages; the order is that of a tree's
+/// keys, 0 for the other kinds; there are `2^p` buckets.
 #[derive(Clone, Copy, Debug, PartialEq, Eq)]
 pub struct StaticHead {
     pub kind: u8,
@@ -104,6 +106,7 @@ fn static_front(head: &StaticHead) -> [u8; 28]
     ]
 }
 
+/// The 32 bytes of a header.
 #[tactic(auto, unfolding(crate::specs::Text::static_text))]
 pub fn write_static(head: &StaticHead) -> [u8; 32]
     requires { head.now.p ≤ 24 }

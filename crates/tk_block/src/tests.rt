@@ -8,11 +8,17 @@ use std::test::Fail;
 use tk_model::{Bytes, Change, Group, ListOf, NoMemory, Pair};
 
 // A file of one record, `a` with the value `1`: header, closing part and block, by another program.
-static HEADER: &[u8] = b"TKPHASH\n\x01\x01\x0a\0\0\0\0\0\0\0\0\0\0\0\0\0\0\0\x20\x40\x64\x2b\xf2\xf6";
-static CLOSING: &[u8] = b"\0\0\0\0\0\0\x20\x70\0\0\0\0\0\0\0\x01\0\0\0\0\0\0\0\x01\0\0\0\0\xf7\xb7\x05\x05";
-static BLOCK: &[u8] = b"TKB1\0\0\0\0\0\0\0\x30\x4a\x4b\x38\x9d\0\0\0\0\0\0\0\0\x01\x01\0\x01\0\0\0\x01\0\0\0\0\0\0\0\0a1\x72\x54\xb9\xe1\0\0";
+static HEADER: &[u8] =
+    b"TKPHASH\n\x01\x01\x0a\0\0\0\0\0\0\0\0\0\0\0\0\0\0\0\x20\x40\x64\x2b\xf2\xf6";
+
+static CLOSING: &[u8] =
+    b"\0\0\0\0\0\0\x20\x70\0\0\0\0\0\0\0\x01\0\0\0\0\0\0\0\x01\0\0\0\0\xf7\xb7\x05\x05";
+
+static BLOCK: &[u8] =
+    b"TKB1\0\0\0\0\0\0\0\x30\x4a\x4b\x38\x9d\0\0\0\0\0\0\0\0\x01\x01\0\x01\0\0\0\x01\0\0\0\0\0\0\0\0a1\x72\x54\xb9\xe1\0\0";
 // The same block under the number 7.
-static BLOCK_OF_7: &[u8] = b"TKB1\0\0\0\0\0\0\0\x30\x4a\x4b\x38\x9d\0\0\0\0\0\0\0\0\x01\x01\0\x01\0\0\0\x01\0\0\0\0\0\0\0\x07a1\x74\xb8\x2f\x2c\0\0";
+static BLOCK_OF_7: &[u8] =
+    b"TKB1\0\0\0\0\0\0\0\x30\x4a\x4b\x38\x9d\0\0\0\0\0\0\0\0\x01\x01\0\x01\0\0\0\x01\0\0\0\0\0\0\0\x07a1\x74\xb8\x2f\x2c\0\0";
 
 #[test]
 fn a_header_is_written_and_read(rt: HostRuntime) {
