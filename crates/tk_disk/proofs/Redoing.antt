@@ -1,5 +1,5 @@
 -- What steps done again in part leave is an image that a crash may leave.
-use Rattle.std.proofs.Common.{◌≡◌, ◌⊎◌, inl, inr, ℕ, zero, suc, ◌+◌, ◌-◌, ◌<◌, ◌≤◌, min, Bool, true, false, cond, List, [], ◌∷◌, ◌++◌, length, get_or, take, drop, refl, sym, ◌∙◌, ap, subst, arith, length-take, length-drop}
+use Rattle.std.proofs.Common.{◌≡◌, inl, inr, ℕ, zero, suc, ◌+◌, ◌-◌, ◌<◌, ◌≤◌, Bool, cond, List, [], ◌∷◌, ◌++◌, length, get_or, take, drop, refl, sym, ◌∙◌, ap, subst, arith, length-take, length-drop}
 use Rattle.std.proofs.lemmas.Bool.Decides.{leb_tells}
 use Rattle.std.proofs.lemmas.List.{drop-drop, drop_more, drop_all, take-append-le, take-append-drop}
 use lib.Seq.{drop-append-le}
@@ -9,7 +9,7 @@ use Rattle.tk_disk.specs.Disk.{put_at}
 use Rattle.tk_disk.specs.Crash.{IsOutside}
 use Rattle.tk_disk.specs.Replay.{State, replay, settled, written, shortened, spent, AreWithin, IsSound, IsImage}
 use Rattle.tk_disk.specs.Memory.{TapeView, state_now, MayLeave}
-use Rattle.tk_disk.specs.Redone.{redone, HasNoSync, EndsWithLastSync, IsKeptImage}
+use Rattle.tk_disk.specs.Redone.{redone, HasNoSync, IsKeptImage}
 use Rattle.tk_disk.proofs.History.{spent-append, spent-take}
 use Rattle.tk_disk.proofs.States.{settled-sound, written-sound, shortened-sound, longest-put_at}
 

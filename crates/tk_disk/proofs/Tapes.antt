@@ -11,7 +11,7 @@ use Rattle.tk_disk.specs.TapeInside.{Tells}
 use Rattle.tk_disk.specs.Replay.{State, replay, settled, written, shortened, spent, IsLeft, IsSound}
 use Rattle.tk_disk.proofs.Still.{still}
 use Rattle.tk_disk.proofs.States.{write_follows, cut_follows, settled-only, settled-sound, written-sound, shortened-sound, put_at-outside, length-put_at, take-torn}
-use Rattle.tk_disk.proofs.Redoing.{within-more, replay-sound, replay-split, within-front, within-rest, redone-all, redone-image}
+use Rattle.tk_disk.proofs.Redoing.{within-more}
 use Rattle.tk_disk.proofs.History.{replay-store, spent-take, replay-write, replay-cut, replay-sync, spent-append}
 
 pub begun : (bytes : List ℕ) → Tells bytes [] [] bytes

@@ -1,6 +1,6 @@
-use Rattle.std.proofs.Common.{◌≡◌, ◌+◌, ◌≤◌, refl, sym, ◌∙◌, ap, subst, arith, ℕ}
+use Rattle.std.proofs.Common.{◌+◌, refl, arith}
 use Rattle.tk_disk.specs.declared.tape.Step.TheVariants.{Write, Cut, Sync}
-use Rattle.tk_disk.proofs.LastSync.{Counted, spent_within, counted-other, counted-sync}
+use Rattle.tk_disk.proofs.LastSync.{spent_within, counted-other, counted-sync}
 use Rattle.tk_disk.proofs.tape.last_sync.Goals.{in-Write, in-Cut, in-Sync}
 use Rattle.tk_disk.proofs.tape.last_sync.Goals as goal
 

@@ -1,7 +1,7 @@
-use Rattle.std.proofs.Common.{◌≡◌, ◌+◌, ◌-◌, ◌^◌, ◌≤◌, ◌∙◌, ℕ, List, length, take, drop, ap, sym, subst, arith}
+use Rattle.std.proofs.Common.{◌≡◌, ◌-◌, ◌^◌, ◌∙◌, ℕ, List, take, drop, ap, arith}
 use Rattle.tk_disk.specs.declared.tape.Step.{Step}
 use Rattle.tk_disk.specs.Redone.{redone}
-use Rattle.tk_disk.specs.Replay.{spent, replay, settled, AreWithin}
+use Rattle.tk_disk.specs.Replay.{spent, replay, settled}
 use Rattle.tk_disk.proofs.History.{spent-take}
 use Rattle.tk_disk.proofs.Redoing.{within-front, within-back, spent-split, redone-front}
 use Rattle.tk_disk.proofs.tape.redo_kept.Goals as goal

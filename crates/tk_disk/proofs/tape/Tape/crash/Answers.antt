@@ -1,5 +1,5 @@
-use Rattle.std.proofs.Common.{◌≡◌, List, ℕ, subst, refl, rules}
-use Rattle.tk_disk.specs.Memory.{TapeView, MayLeave}
+use Rattle.std.proofs.Common.{subst, rules}
+use Rattle.tk_disk.specs.Memory.{TapeView}
 use Rattle.tk_disk.specs.Redone.{IsKeptImage}
 use Rattle.tk_disk.specs.Replay.{AreWithin}
 use Rattle.tk_disk.proofs.Redoing.{kept-left}
