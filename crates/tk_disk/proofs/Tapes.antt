@@ -11,11 +11,12 @@ use Rattle.tk_disk.specs.TapeInside.{Tells}
 use Rattle.tk_disk.specs.Replay.{State, replay, settled, written, shortened, spent, IsLeft, IsSound}
 use Rattle.tk_disk.proofs.Still.{still}
 use Rattle.tk_disk.proofs.States.{write_follows, cut_follows, settled-only, settled-sound, written-sound, shortened-sound, put_at-outside, length-put_at, take-torn}
+use Rattle.tk_disk.proofs.Redoing.{within-more}
 use Rattle.tk_disk.proofs.History.{replay-store, spent-take, replay-write, replay-cut, replay-sync, spent-append}
 
 pub begun : (bytes : List ℕ) → Tells bytes [] [] bytes
 unfolding settled
-begun bytes = record { reads = refl; all_stored = refl; sound = settled-sound bytes }
+begun bytes = record { reads = refl; within = tt; all_stored = refl; sound = settled-sound bytes }
 
 pub begun_as : (bytes first now store : List ℕ) (steps : List Step) → first ≡ bytes → steps ≡ [] → store ≡ [] → now ≡ bytes → Tells first steps store now
 begun_as bytes first now store steps f s t n =
@@ -168,6 +169,7 @@ module _ (start : List ℕ) (done after : List Step) (kept held bytes now : List
       ∙ replay-write done kept new at (settled start) tells.all_stored in
       record {
         reads = ap (λ (s : State). s.now) state ∙ now-written at new (replay done kept (settled start)) ∙ ap (λ (l : List ℕ). put_at at new l) tells.reads ∙ sym is;
+        within = within-more done after kept held new start (Write at (length new)) steps store tells.within tells.all_stored (omega (arith, within, ap length tells.reads), tt);
         all_stored = omega (arith, ap spent steps, spent-append done (Write at (length new) ∷ []), ap length store, length-append kept new, tells.all_stored);
         sound = subst (λ (s : State). IsSound s) (sym state) (written-sound (replay done kept (settled start)) at new tells.sound (omega (arith, within, ap length tells.reads)));
       }
@@ -179,6 +181,7 @@ module _ (start : List ℕ) (done after : List Step) (kept held bytes now : List
       ∙ replay-cut done kept n (settled start) in
       record {
         reads = ap (λ (s : State). s.now) state ∙ now-shortened n (replay done kept (settled start)) ∙ ap (λ (l : List ℕ). take n l) tells.reads ∙ sym is;
+        within = within-more done after kept held [] start (Cut n) steps store tells.within tells.all_stored (omega (arith, within, ap length tells.reads), tt);
         all_stored = omega (arith, ap spent steps, spent-append done (Cut n ∷ []), ap length store, ap length (append-nil kept), tells.all_stored);
         sound = subst (λ (s : State). IsSound s) (sym state) (shortened-sound (replay done kept (settled start)) n tells.sound (omega (arith, within, ap length tells.reads)));
       }
@@ -190,6 +193,7 @@ module _ (start : List ℕ) (done after : List Step) (kept held bytes now : List
       ∙ replay-sync done kept (settled start) in
       record {
         reads = ap (λ (s : State). s.now) state ∙ now-settled (replay done kept (settled start)).now ∙ tells.reads ∙ sym is;
+        within = within-more done after kept held [] start Sync steps store tells.within tells.all_stored tt;
         all_stored = omega (arith, ap spent steps, spent-append done (Sync ∷ []), ap length store, ap length (append-nil kept), tells.all_stored);
         sound = subst (λ (s : State). IsSound s) (sym state) (settled-sound (replay done kept (settled start)).now);
       }

@@ -9,5 +9,6 @@ pub mod MemFolder
 pub mod Memory
 pub mod MemoryLaws
 pub mod Places
+pub mod Redone
 pub mod Replay
 pub mod TapeInside

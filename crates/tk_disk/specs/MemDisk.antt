@@ -6,6 +6,7 @@ use Rattle.tk_disk.specs.declared.memory.MemDisk.{MemDisk}
 use Rattle.tk_disk.specs.Crash.{Elapses}
 use Rattle.tk_disk.specs.Disk.{capped}
 use Rattle.tk_disk.specs.Memory.{TapeView, tape_bytes, MayLeave, LeftSince}
+use Rattle.tk_disk.specs.Redone.{IsKeptImage}
 
 -- what the disk holds
 abbrev pub mem_bytes : MemDisk → List ℕ
@@ -29,6 +30,10 @@ MemLeftSince d = LeftSince d.tape
 -- time goes on from one state to another
 abbrev pub MemElapses : MemDisk → MemDisk → Type 0
 MemElapses old new = Elapses (mem_moment old) (mem_moment new) (MemLeftSince old) (MemLeftSince new) (MemMayLeave new)
+
+-- the image in which the first `keep` bytes written since the last hard sync stand, and a cut where all bytes before it do
+abbrev pub IsKeptOf : MemDisk → ℕ → List ℕ → Type 0
+IsKeptOf d keep = IsKeptImage keep d.tape.first d.tape.steps d.tape.store
 
 -- what it began with and each step since
 abbrev pub mem_tape : MemDisk → TapeView

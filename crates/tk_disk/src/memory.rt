@@ -32,7 +32,7 @@ fn get(file: &[u8], at: u64, into: &mut [u8]) -> usize
 }
 
 impl MemDisk {
-    ghost use Rattle.tk_disk.specs.MemDisk.{mem_bytes, mem_moment, mem_tape, mem_room, mem_list, mem_calls, mem_faults, mem_taken, mem_fails, MemMayLeave};
+    ghost use Rattle.tk_disk.specs.MemDisk.{mem_bytes, mem_moment, mem_tape, mem_room, mem_list, mem_calls, mem_faults, mem_taken, mem_fails, MemMayLeave, IsKeptOf};
 
     /// All its memory is taken here.
     pub fn new(
@@ -64,6 +64,14 @@ impl MemDisk {
         ensures { result.now ≡ mem_bytes self.now }
     {
         self.tape.bytes()
+    }
+
+    /// The bytes after a crash now that kept so many of those written since the last hard sync, in their order.
+    pub fn crash(&self, alloc: Global, keep: u64) -> Result<Bytes, NoMemory>
+        ensures image { IfOk result (IsKeptOf self.now keep) }
+        ensures left { IfOk result (MemMayLeave self.now) }
+    {
+        Ok(Bytes::from_vec(self.tape.crash(alloc, keep)?))
     }
 
     /// Counts a call, and says whether it is to go on.

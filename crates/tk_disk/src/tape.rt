@@ -2,6 +2,8 @@ ghost use Rattle.std.specs.Prelude.{◌≡◌, ◌+◌, ◌-◌, ◌++◌, [], �
 ghost use Rattle.tk_disk.specs.Disk.{put_at};
 ghost use Rattle.tk_disk.specs.Crash.{Torn, Shortened, Follows, Within, Only, Elapses};
 ghost use Rattle.tk_disk.specs.Memory.{tape_bytes, MayLeave, LeftSince};
+ghost use Rattle.tk_disk.specs.Redone.{redone, EndsWithLastSync, IsKeptImage};
+ghost use Rattle.tk_disk.specs.Replay.{spent, AreWithin};
 
 use std::alloc::Global;
 use std::marker::Model;
@@ -63,6 +65,68 @@ fn note(steps: &mut Vec<Step>, store: &mut Vec<u8>, step: Step, bytes: &[u8])
 {
     steps.push(step).unwrap();
     store.extend_from_slice(bytes).unwrap();
+}
+
+/// Does steps again, of whose writes the first `keep` bytes are to stand.
+fn redo(file: &mut Vec<u8>, steps: &[Step], store: &[u8], keep: u64)
+    requires within { AreWithin steps.now store.now file.old.items }
+    requires stored { spent steps.now ≤ length store.now }
+    requires room { vec_len file.old + spent steps.now ≤ vec_capacity file.old }
+    ensures done { file.new.items ≡ redone keep steps.now store.now file.old.items }
+    ensures room { vec_len file.new ≤ vec_len file.old + spent steps.now }
+    ensures capacity { vec_capacity file.old ≤ vec_capacity file.new }
+{
+    let mut store = store;
+    let mut left = keep;
+    for step in steps {
+        match *step {
+            Step::Write(at, n) if n <= left => {
+                let (bytes, rest) = store.split_at(n as usize);
+                put(file, at as usize, bytes);
+                store = rest;
+                left -= n;
+            }
+            Step::Write(at, _) => {
+                put(file, at as usize, &store[..left as usize]);
+                return;
+            }
+            Step::Cut(len) => file.truncate(len as usize),
+            Step::Sync => {}
+        }
+    }
+}
+
+/// How many steps there are up to the last hard sync, and how many bytes their writes took.
+fn last_sync(steps: &[Step]) -> (usize, usize)
+    requires { spent steps.now < 2 ^ 63 }
+    ensures last { EndsWithLastSync result.0 steps.now }
+    ensures spent { result.1 ≡ spent (take result.0 steps.now) }
+{
+    let mut synced = (0, 0);
+    let mut bytes = 0;
+    for (i, step) in steps.iter().enumerate() {
+        match *step {
+            Step::Write(_, n) => bytes += n as usize,
+            Step::Cut(_) => {}
+            Step::Sync => synced = (i + 1, bytes),
+        }
+    }
+    synced
+}
+
+/// Does the steps again up to the last hard sync, and of those after it as far as so many bytes reach.
+fn redo_kept(file: &mut Vec<u8>, steps: &[Step], store: &[u8], keep: u64)
+    requires within { AreWithin steps.now store.now file.old.items }
+    requires stored { spent steps.now ≤ length store.now }
+    requires room { vec_len file.old + spent steps.now ≤ vec_capacity file.old }
+    requires bound { spent steps.now < 2 ^ 63 }
+    ensures { IsKeptImage keep file.old.items steps.now store.now file.new.items }
+{
+    let (synced, bytes) = last_sync(steps);
+    let (before, after) = steps.split_at(synced);
+    let (_, later) = store.split_at(bytes);
+    redo(file, before, store, u64::MAX);
+    redo(file, after, later, keep);
 }
 
 impl Tape {
@@ -149,5 +213,16 @@ impl Tape {
         ensures time { Elapses (length self.old.steps) (length self.new.steps) (LeftSince self.old) (LeftSince self.new) (MayLeave self.new) }
     {
         self.room -= 64;
+    }
+
+    /// The bytes after a crash now that kept so many of those written since the last hard sync, in their order.
+    pub fn crash(&self, alloc: Global, keep: u64) -> Result<Vec<u8>, NoMemory>
+        ensures image { IfOk result (λ b. IsKeptImage keep self.now.first self.now.steps self.now.store b.items) }
+        ensures left { IfOk result (λ b. MayLeave self.now b.items) }
+    {
+        let mut file = Vec::with_capacity(alloc, self.first.len() + self.store.len())?;
+        file.extend_from_slice(&self.first)?;
+        redo_kept(&mut file, &self.steps, &self.store, keep);
+        Ok(file)
     }
 }

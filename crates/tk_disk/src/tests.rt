@@ -35,6 +35,39 @@ fn a_disk_in_memory_reads_and_writes(rt: HostRuntime) -> Result<(), Fail> {
 }
 
 #[test]
+fn a_crash_keeps_the_first_bytes(rt: HostRuntime) -> Result<(), Fail> {
+    let alloc = rt.alloc();
+    let mut disk = disk_of(alloc, b"abcdef", 1000, &[])?;
+    disk.write_at(0, b"XY")?;
+    disk.write_at(1, b"ZW")?;
+    for (keep, image) in [
+        (0, b"abcdef"),
+        (1, b"Xbcdef"),
+        (2, b"XYcdef"),
+        (3, b"XZcdef"),
+        (4, b"XZWdef"),
+        (9, b"XZWdef"),
+    ] {
+        let left = disk.crash(alloc, keep)?;
+        assert_eq!(rt; left.as_slice(), image.as_slice(), "at {keep}");
+    }
+    Ok(())
+}
+
+#[test]
+fn a_crash_keeps_what_was_synced(rt: HostRuntime) -> Result<(), Fail> {
+    let alloc = rt.alloc();
+    let mut disk = disk_of(alloc, b"abcdef", 1000, &[])?;
+    disk.write_at(0, b"XY")?;
+    disk.sync(true)?;
+    disk.write_at(1, b"Z")?;
+    disk.cut(0)?;
+    assert_eq!(rt; disk.crash(alloc, 0)?.as_slice(), b"XYcdef".as_slice());
+    assert_eq!(rt; disk.crash(alloc, 1)?.as_slice(), b"".as_slice());
+    Ok(())
+}
+
+#[test]
 fn a_disk_in_memory_fails_by_its_list(rt: HostRuntime) -> Result<(), Fail> {
     let mut disk = disk_of(rt.alloc(), b"", 1000, &[1, 3, 5, 7, 9])?;
     let mut into = [0; 1];
