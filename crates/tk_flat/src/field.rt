@@ -93,8 +93,12 @@ pub fn escape(bytes: &[u8], out: &mut Bytes) -> Result<(), NoMemory>
 fn hex_value(digit: u8) -> Option<u8>
     ensures { SomeIff result (digit_value digit < 16) (digit_value digit) }
 {
-    let value = char::from(digit).to_digit(16)?;
-    Some(value as u8)
+    match digit {
+        b'0'..=b'9' => Some(digit - b'0'),
+        b'A'..=b'F' => Some(digit - b'A' + 10),
+        b'a'..=b'f' => Some(digit - b'a' + 10),
+        _ => None,
+    }
 }
 
 /// The byte of two digits, and the rest.
