@@ -7,7 +7,7 @@ use Rattle.std.proofs.lemmas.List.Elements.{All-from_recursion, recursion_from_A
 use Rattle.std.proofs.lemmas.Bool.{or_parts, ltb-false, ne_eqb}
 use Rattle.tk_model.specs.declared.record.Pair.{Pair}
 use Rattle.tk_flat.specs.Escapes.{needs_escape, hex_escape, escape_text, byte_text, escaped, unescaped}
-use Rattle.tk_flat.specs.Tsv.{IsSmall, is_tab, pair_from, pair_in, lines_of, line_body, line_text, tsv_text}
+use Rattle.tk_flat.specs.Tsv.{IsSmall, IsReadBack, is_tab, pair_from, pair_in, lines_of, line_body, line_text, tsv_text}
 use Rattle.tk_flat.proofs.Lines.{fields-two, lines_of-run}
 
 -- no control byte
@@ -53,10 +53,6 @@ join P (x ∷ xs) ys px py = (px.0, join P xs ys px.1 py)
 no_lf : (pair : Pair) → AllByRecursion (λ (c : ℕ). eqb c 10 ≡ false) (line_body pair)
 no_lf pair =
     join (λ (c : ℕ). eqb c 10 ≡ false) (escaped pair.key) (9 ∷ escaped pair.value) (lacks 10 (omega arith) (escaped pair.key) (printed pair.key)) (refl, lacks 10 (omega arith) (escaped pair.value) (printed pair.value))
-
--- a small record's line is read as the record
-abbrev pub IsReadBack : Pair → Type 0
-IsReadBack pair = IsSmall pair → pair_in (line_body pair) ≡ Some pair
 
 pub line-back : (pair : Pair) → unescaped (escaped pair.key) ≡ Some pair.key → unescaped (escaped pair.value) ≡ Some pair.value → IsReadBack pair
 line-back pair key value small =

@@ -8,6 +8,9 @@ use Rattle.tk_model.specs.declared.record.Pair.{Pair}
 abbrev pub flat_word : List ℕ
 flat_word = 0x54 ∷ 0x4b ∷ 0x50 ∷ 0x46 ∷ 0x4c ∷ 0x41 ∷ 0x54 ∷ 0x0a ∷ []
 
+abbrev pub pair_with : (key value : List ℕ) → Pair
+pair_with key value = record { key = key; value = value }
+
 -- a record that a flat text can hold
 pub record IsFlat (pair : Pair) : Type 0 where
   pub key_fits : length pair.key ≤ 65535

@@ -59,3 +59,7 @@ line_text pair = line_body pair ++ (0x0a ∷ [])
 
 unfoldable pub tsv_text : List Pair → List ℕ
 tsv_text pairs = flat_map line_text pairs
+
+-- a record whose line is read as this record
+abbrev pub IsReadBack : Pair → Type 0
+IsReadBack pair = IsSmall pair → pair_in (line_body pair) ≡ Some pair

@@ -71,8 +71,8 @@ fn cut_run(bytes: &[u8]) -> Option<(&[u8], u8, &[u8])>
     Some((&bytes[..at], bytes[at], &bytes[at + 1..]))
 }
 
-#[tactic(auto, using(crate::proofs::Escaped::escape_steps))]
 /// Puts bytes at the end as one field.
+#[tactic(auto, using(crate::proofs::Escaped::escape_steps))]
 pub fn escape(bytes: &[u8], out: &mut Bytes) -> Result<(), NoMemory>
     ensures ok { OnOk result (out.new ≡ out.old ++ escaped bytes.now) }
     ensures err { OnErr result (Extends out.old out.new) }
@@ -93,12 +93,16 @@ pub fn escape(bytes: &[u8], out: &mut Bytes) -> Result<(), NoMemory>
 fn hex_value(digit: u8) -> Option<u8>
     ensures { SomeIff result (digit_value digit < 16) (digit_value digit) }
 {
-    let value = char::from(digit).to_digit(16)?;
-    Some(value as u8)
+    match digit {
+        b'0'..=b'9' => Some(digit - b'0'),
+        b'A'..=b'F' => Some(digit - b'A' + 10),
+        b'a'..=b'f' => Some(digit - b'a' + 10),
+        _ => None,
+    }
 }
 
-#[tactic(auto, unfolding(crate::specs::Escapes::unescaped))]
 /// The byte of two digits, and the rest.
+#[tactic(auto, unfolding(crate::specs::Escapes::unescaped))]
 fn read_hex(bytes: &[u8]) -> Option<(u8, &[u8])>
     ensures found { IfSome result (λ r. first_digit bytes.now ≡ followed r.0 (unescaped r.1.now)) }
     ensures none { IfNone result (first_digit bytes.now ≡ None) }
@@ -112,8 +116,8 @@ fn read_hex(bytes: &[u8]) -> Option<(u8, &[u8])>
     Some((16 * high + low, rest))
 }
 
-#[tactic(auto, unfolding(crate::specs::Escapes::unescaped))]
 /// The byte that is written behind a backslash, and the rest.
+#[tactic(auto, unfolding(crate::specs::Escapes::unescaped))]
 fn read_escape(bytes: &[u8]) -> Option<(u8, &[u8])>
     ensures found { IfSome result (λ r. after_backslash bytes.now ≡ followed r.0 (unescaped r.1.now)) }
     ensures none { IfNone result (after_backslash bytes.now ≡ None) }
@@ -129,8 +133,8 @@ fn read_escape(bytes: &[u8]) -> Option<(u8, &[u8])>
     }
 }
 
-#[tactic(auto, using(crate::proofs::Fields::unescape_steps))]
 /// The bytes of a field; none where it holds a backslash that begins no escape.
+#[tactic(auto, using(crate::proofs::Fields::unescape_steps))]
 pub fn unescape(alloc: Global, field: &[u8]) -> Result<Option<Bytes>, NoMemory>
     ensures { IfOk result (λ bytes. bytes ≡ unescaped field.now) }
 {

@@ -1,7 +1,7 @@
 ghost use Rattle.std.specs.Prelude.{◌≡◌, ◌≢◌, ◌+◌, ◌<◌, ◌++◌, ℕ, List, All, true, false, Ok, Err, drop, length, IfErr, IfOk, IfNone, IfSome, OnOk, OnErr};
 ghost use Rattle.tk_model.specs.declared.record.Pair.{Pair};
 ghost use Rattle.tk_flat.specs.Errors.{Answers, Extends, Names};
-ghost use Rattle.tk_flat.specs.Flat.{BeginsWith, BeginsWithNone, IsFault, IsFlat, IsFlatText, flat_text, flat_word, lengths_text, record_text};
+ghost use Rattle.tk_flat.specs.Flat.{BeginsWith, BeginsWithNone, IsFault, IsFlat, IsFlatText, flat_text, flat_word, lengths_text, pair_with, record_text};
 
 use crate::TextError;
 use std::alloc::Global;
@@ -20,7 +20,7 @@ pub struct FlatRecord<'a> {
 
 /// The record at the front.
 pub fn record_at(bytes: &[u8]) -> Option<FlatRecord<'_>>
-    ensures found { IfSome result (λ r. BeginsWith bytes.now (record { key = r.key.now; value = r.value.now }) (drop (6 + (length r.key.now + length r.value.now)) bytes.now)) }
+    ensures found { IfSome result (λ r. BeginsWith bytes.now (pair_with r.key.now r.value.now) (drop (6 + (length r.key.now + length r.value.now)) bytes.now)) }
     ensures none { IfNone result (BeginsWithNone bytes.now) }
 {
     let [k0, k1, v0, v1, v2, v3, rest @ ..] = bytes else {
@@ -66,8 +66,8 @@ fn read_records(alloc: Global, bytes: &[u8]) -> Result<PairList, TextError>
     Ok(pairs)
 }
 
-#[tactic(auto, using(crate::proofs::Judged::flat_accepted, crate::proofs::Judged::flat_refused))]
 /// The records of a flat text.
+#[tactic(auto, using(crate::proofs::Judged::flat_accepted, crate::proofs::Judged::flat_refused))]
 pub fn read_flat(alloc: Global, bytes: &[u8]) -> Result<PairList, TextError>
     ensures read { IfOk result (λ pairs. IsFlatText bytes.now pairs) }
     ensures place { IfErr result (Names (IsFault bytes.now)) }
@@ -78,29 +78,29 @@ pub fn read_flat(alloc: Global, bytes: &[u8]) -> Result<PairList, TextError>
 }
 
 #[tactic(auto, unfolding(crate::specs::Flat::lengths_text))]
-fn lengths_text(pair: &Pair) -> [u8; 6]
-    requires { IsFlat pair.now }
-    ensures { result ≡ lengths_text pair.now }
+fn lengths_text(key: &[u8], value: &[u8]) -> [u8; 6]
+    requires { IsFlat (pair_with key.now value.now) }
+    ensures { result ≡ lengths_text (pair_with key.now value.now) }
 {
-    let k = (pair.key.len() as u16).to_be_bytes();
-    let v = (pair.value.len() as u32).to_be_bytes();
+    let k = (key.len() as u16).to_be_bytes();
+    let v = (value.len() as u32).to_be_bytes();
     [k[0], k[1], v[0], v[1], v[2], v[3]]
 }
 
-#[tactic(auto, using(crate::proofs::Lists::Extends_same, crate::proofs::Lists::Extends_by), unfolding(crate::specs::Flat::record_text))]
 /// Puts a record at the end.
-pub fn write_record(pair: &Pair, out: &mut Bytes) -> Result<(), NoMemory>
-    requires { IsFlat pair.now }
-    ensures ok { OnOk result (out.new ≡ out.old ++ record_text pair.now) }
+#[tactic(auto, using(crate::proofs::Lists::Extends_same, crate::proofs::Lists::Extends_by), unfolding(crate::specs::Flat::record_text))]
+pub fn write_record(key: &[u8], value: &[u8], out: &mut Bytes) -> Result<(), NoMemory>
+    requires { IsFlat (pair_with key.now value.now) }
+    ensures ok { OnOk result (out.new ≡ out.old ++ record_text (pair_with key.now value.now)) }
     ensures err { OnErr result (Extends out.old out.new) }
 {
-    out.extend(&lengths_text(pair))?;
-    out.extend(pair.key.as_slice())?;
-    out.extend(pair.value.as_slice())
+    out.extend(&lengths_text(key, value))?;
+    out.extend(key)?;
+    out.extend(value)
 }
 
-#[tactic(auto, using(crate::proofs::Lists::Extends_then, crate::proofs::Lists::Extends_by), unfolding(crate::specs::Flat::flat_text))]
 /// Puts the flat text of records at the end.
+#[tactic(auto, using(crate::proofs::Lists::Extends_then, crate::proofs::Lists::Extends_by), unfolding(crate::specs::Flat::flat_text))]
 pub fn write_flat(pairs: &PairList, out: &mut Bytes) -> Result<(), NoMemory>
     requires { All IsFlat pairs.now }
     ensures ok { OnOk result (out.new ≡ out.old ++ flat_text pairs.now) }
@@ -108,7 +108,7 @@ pub fn write_flat(pairs: &PairList, out: &mut Bytes) -> Result<(), NoMemory>
 {
     out.extend(&WORD)?;
     for pair in pairs.as_slice() {
-        write_record(pair, out)?;
+        write_record(pair.key.as_slice(), pair.value.as_slice(), out)?;
     }
     Ok(())
 }

@@ -1,7 +1,8 @@
 ghost use Rattle.std.specs.Prelude.{◌≡◌, ◌≢◌, ◌<◌, ◌++◌, ◌∷◌, [], ℕ, List, All, length, map, Ok, Err, IfErr, IfOk, OnOk, OnErr, Some};
 ghost use Rattle.tk_model.specs.declared.record.Pair.{Pair};
 ghost use Rattle.tk_flat.specs.Errors.{Answers, Extends, Names};
-ghost use Rattle.tk_flat.specs.Tsv.{IsFirstBadLine, IsSmall, IsTsv, line_body, line_text, lines_of, pair_from, pair_in, tsv_text};
+ghost use Rattle.tk_flat.specs.Flat.{pair_with};
+ghost use Rattle.tk_flat.specs.Tsv.{IsFirstBadLine, IsReadBack, IsSmall, IsTsv, line_text, lines_of, pair_from, pair_in, tsv_text};
 
 use crate::TextError;
 use crate::field::{escape, unescape};
@@ -13,8 +14,8 @@ const MAX_KEY: usize = 65_535;
 
 const MAX_VALUE: usize = 16_777_215;
 
-#[tactic(auto, using(crate::proofs::Lines::line_at, crate::proofs::Lines::line_last))]
 /// The first line, without its LF, and the bytes behind it. The last LF may be missing.
+#[tactic(auto, using(crate::proofs::Lines::line_at, crate::proofs::Lines::line_last))]
 pub fn next_line(bytes: &[u8]) -> (&[u8], &[u8])
     requires { 0 < length bytes.now }
     ensures line { lines_of bytes.now ≡ result.0.now ∷ lines_of result.1.now }
@@ -70,8 +71,8 @@ fn read_lines(alloc: Global, bytes: &[u8]) -> Result<PairList, TextError>
     Ok(pairs)
 }
 
-#[tactic(auto, using(crate::proofs::TsvJudged::tsv_accepted, crate::proofs::TsvJudged::tsv_refused))]
 /// The records of a text of lines.
+#[tactic(auto, using(crate::proofs::TsvJudged::tsv_accepted, crate::proofs::TsvJudged::tsv_refused))]
 pub fn read_tsv(alloc: Global, bytes: &[u8]) -> Result<PairList, TextError>
     ensures read { IfOk result (λ pairs. IsTsv bytes.now pairs) }
     ensures line { IfErr result (Names (IsFirstBadLine bytes.now)) }
@@ -81,28 +82,29 @@ pub fn read_tsv(alloc: Global, bytes: &[u8]) -> Result<PairList, TextError>
     read_lines(alloc, bytes)
 }
 
+/// Puts a record at the end as a line.
 #[tactic(auto, using(crate::proofs::Lists::Extends_then, crate::proofs::Lists::Extends_by, crate::proofs::Lists::Extends_same))]
-fn write_line(pair: &Pair, out: &mut Bytes) -> Result<(), NoMemory>
-    ensures ok { OnOk result (out.new ≡ out.old ++ line_text pair.now) }
+pub fn write_line(key: &[u8], value: &[u8], out: &mut Bytes) -> Result<(), NoMemory>
+    ensures ok { OnOk result (out.new ≡ out.old ++ line_text (pair_with key.now value.now)) }
     ensures err { OnErr result (Extends out.old out.new) }
-    ensures back { OnOk result (IsSmall pair.now → pair_in (line_body pair.now) ≡ Some pair.now) }
+    ensures back { OnOk result (IsReadBack (pair_with key.now value.now)) }
 {
-    escape(pair.key.as_slice(), out)?;
+    escape(key, out)?;
     out.push(b'\t')?;
-    escape(pair.value.as_slice(), out)?;
+    escape(value, out)?;
     out.push(b'\n')?;
     Ok(())
 }
 
-#[tactic(auto, using(crate::proofs::Lists::Extends_then, crate::proofs::Lists::Extends_by))]
 /// Puts records at the end, a line for each.
+#[tactic(auto, using(crate::proofs::Lists::Extends_then, crate::proofs::Lists::Extends_by))]
 pub fn write_tsv(pairs: &PairList, out: &mut Bytes) -> Result<(), NoMemory>
     ensures ok { OnOk result (out.new ≡ out.old ++ tsv_text pairs.now) }
     ensures err { OnErr result (Extends out.old out.new) }
     ensures back { OnOk result (All IsSmall pairs.now → IsTsv (tsv_text pairs.now) pairs.now) }
 {
     for pair in pairs.as_slice() {
-        write_line(pair, out)?;
+        write_line(pair.key.as_slice(), pair.value.as_slice(), out)?;
     }
     Ok(())
 }

@@ -1,6 +1,5 @@
 use Rattle.std.proofs.Common.{◌≡◌, ◌++◌, take, All}
-use Rattle.tk_flat.specs.Tsv.{tsv_text}
-use Rattle.tk_flat.proofs.LinesBack.{IsReadBack}
+use Rattle.tk_flat.specs.Tsv.{IsReadBack, tsv_text}
 use Rattle.tk_flat.proofs.tsv.write_tsv.Given as goal
 
 abbrev pub invariant-loop-pair : goal.invariant-loop-pair
