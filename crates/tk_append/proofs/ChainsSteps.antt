@@ -11,7 +11,8 @@ use Rattle.tk_block.specs.Blocks.{extent_of, extent_for, body_of, is_nil}
 use Rattle.tk_block.specs.Layout.{Placed, laid, end_of, newest, renewed, links_of, bucket_in}
 use Rattle.tk_append.specs.Fresh.{fresh_bodies}
 use Rattle.tk_append.specs.Chains.{HeadsAre}
-use Rattle.tk_append.proofs.Layouts.{newest-append, end_of-append, links_of-append, bodies-more, laid-more}
+use Rattle.tk_append.proofs.Layouts.{bodies-more, laid-more}
+use Rattle.tk_block.proofs.Layouts.{newest-append, end_of-append, links_of-append}
 
 -- heads, links and end of the first i blocks
 pub record Chained (p base : ℕ) (bodies : List Body) (i : ℕ) (heads links : List ℕ) (place : ℕ) : Type 0 where

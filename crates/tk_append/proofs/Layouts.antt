@@ -1,57 +1,18 @@
 -- Blocks one after another, their links and their text.
 use Rattle.std.proofs.Common.{◌≡◌, ℕ, zero, suc, ◌+◌, ◌<◌, ◌≤◌, Bool, true, false, eqb, List, [], ◌∷◌, ◌++◌, length, get_or, take, drop, refl, sym, ◌∙◌, ap, inl, inr, add-one, arith, append_assoc, length-append}
-use Rattle.std.specs.Prelude.{◌-◌, replicate}
-use Rattle.std.specs.Int.{w32, w64, to_be_bytes}
-use Rattle.std.proofs.lemmas.List.{length-replicate, length-take, take_all, drop_all}
+use Rattle.std.proofs.lemmas.List.{length-take, take_all, drop_all}
 use Rattle.std.proofs.lemmas.Bool.{eq-eqb, ne_eqb, cases_eq}
-use Rattle.tk_block.specs.Text.{checked, check_number, head_text}
-use Rattle.tk_block.proofs.Heads.{length-head_text}
 use Rattle.std.proofs.lemmas.List.{append-nil}
 use Rattle.tk_model.specs.declared.record.Pair.{Pair}
 use Rattle.tk_model.specs.declared.record.Change.TheVariants.{Put}
 use Rattle.tk_block.specs.declared.block.Body.{Body}
-use Rattle.tk_block.specs.Blocks.{IsSmall, extent_of, body_of, is_nil, block_text, numbers_text, body_front, room_of}
-use Rattle.tk_block.specs.Layout.{Placed, laid, end_of, newest, renewed, link_of, links_of, texts, first_or_none}
+use Rattle.tk_block.specs.Blocks.{IsSmall, extent_of, body_of, is_nil, block_text}
+use Rattle.tk_block.specs.Layout.{Placed, laid, end_of, texts, first_or_none}
 use Rattle.tk_append.specs.Fresh.{fresh_bodies, AllPairsSmall}
 use Rattle.std.specs.Prelude.{◌||◌}
 use Rattle.std.proofs.Math.Seq.{drop-nil}
-
-pub newest-append : (p b f : ℕ) (xs ys : List Placed) → newest p b f (xs ++ ys) ≡ newest p b (newest p b f xs) ys
-newest-append p b f [] ys = refl
-newest-append p b f (x ∷ xs) ys = newest-append p b (renewed p b f x) xs ys
-
-pub laid-append : (place : ℕ) (xs ys : List Body) → laid place (xs ++ ys) ≡ laid place xs ++ laid (end_of place xs) ys
-laid-append place [] ys = refl
-laid-append place (x ∷ xs) ys = ap (λ (l : List Placed). record { place = place; body = x } ∷ l) (laid-append (place + extent_of x) xs ys)
-
-pub end_of-append : (place : ℕ) (xs ys : List Body) → end_of place (xs ++ ys) ≡ end_of (end_of place xs) ys
-end_of-append place [] ys = refl
-end_of-append place (x ∷ xs) ys = end_of-append (place + extent_of x) xs ys
-
-pub links_of-append : (p : ℕ) (before xs ys : List Placed) → links_of p before (xs ++ ys) ≡ links_of p before xs ++ links_of p (before ++ xs) ys
-links_of-append p before [] ys = ap (λ (l : List Placed). links_of p l ys) (sym (append-nil before))
-links_of-append p before (x ∷ xs) ys =
-    ap (λ (l : List ℕ). link_of p before x.body ∷ l)
-    (links_of-append p (before ++ x ∷ []) xs ys
-    ∙ ap (λ (l : List Placed). links_of p (before ++ x ∷ []) xs ++ links_of p l ys) (append_assoc before (x ∷ []) xs))
-
-pub length-links_of : (p : ℕ) (before xs : List Placed) → length (links_of p before xs) ≡ length xs
-length-links_of p before [] = refl
-length-links_of p before (x ∷ xs) = ap suc (length-links_of p (before ++ x ∷ []) xs)
-
-pub length-laid : (place : ℕ) (xs : List Body) → length (laid place xs) ≡ length xs
-length-laid place [] = refl
-length-laid place (x ∷ xs) = ap suc (length-laid (place + extent_of x) xs)
-
-drop_one : (n : ℕ) (l : List ℕ) → drop n (drop 1 l) ≡ drop (suc n) l
-drop_one n [] = drop-nil n
-drop_one n (y ∷ l) = refl
-
-pub texts-append : (xs ys : List Placed) (links : List ℕ) → texts (xs ++ ys) links ≡ texts xs links ++ texts ys (drop (length xs) links)
-texts-append [] ys links = refl
-texts-append (x ∷ xs) ys links =
-    ap (λ (l : List ℕ). block_text x.body x.place (first_or_none links) ++ l) (texts-append xs ys (drop 1 links) ∙ ap (λ (l : List ℕ). texts xs (drop 1 links) ++ texts ys l) (drop_one (length xs) links))
-    ∙ sym (append_assoc (block_text x.body x.place (first_or_none links)) (texts xs (drop 1 links)) (texts ys (drop (suc (length xs)) links)))
+use Rattle.tk_block.proofs.Layouts.{laid-append, end_of-append, length-laid, texts-append}
+use Rattle.tk_block.proofs.Lengths.{length-block_text}
 
 -- one block more of fresh records
 pub fresh-take : (each : Bool) (pairs : List Pair) (i : ℕ) (d : Pair) → i < length pairs
@@ -81,27 +42,6 @@ end_of-take place zero [] = omega arith
 end_of-take place zero (b ∷ bs) = omega (arith, end_of-take (place + extent_of b) zero bs)
 end_of-take place (suc i) [] = omega arith
 end_of-take place (suc i) (b ∷ bs) = end_of-take (place + extent_of b) i bs
-
--- a block is as long as its extent
-pub length-block_text : (b : Body) (place link : ℕ) → length (block_text b place link) ≡ extent_of b
-unfolding block_text checked numbers_text
-length-block_text b place link =
-    let head = head_text (extent_of b) place in
-    let link_bytes = to_be_bytes w64 link in
-    let front = body_front b in
-    let check_bytes = to_be_bytes w32 (check_number front place) in
-    let pad : List ℕ = replicate (extent_of b - room_of b) 0 in
-    omega (
-      arith,
-      length-append ((head ++ link_bytes) ++ (front ++ check_bytes)) pad,
-      length-append (head ++ link_bytes) (front ++ check_bytes),
-      length-append head link_bytes,
-      length-append front check_bytes,
-      length-append (numbers_text b ++ b.key) b.value,
-      length-append (numbers_text b) b.key,
-      length-replicate {A = ℕ} (extent_of b - room_of b) 0,
-      length-head_text (extent_of b) place,
-    )
 
 is_nil-drop : (pairs : List Pair) (k : ℕ) → k < length pairs → is_nil (drop k pairs) ≡ false
 is_nil-drop [] k within = absurd (omega arith)

@@ -4,7 +4,8 @@ use Rattle.tk_block.specs.Text.{base_of}
 use Rattle.tk_block.specs.Layout.{laid, end_of, heads_text, texts, links_of}
 use Rattle.tk_append.specs.Fresh.{fresh_bodies}
 use Rattle.tk_append.specs.Pieces.{Holds, words_text}
-use Rattle.tk_append.proofs.Layouts.{end_of-each, end_of-least, length-links_of, length-laid, length-fresh_bodies}
+use Rattle.tk_append.proofs.Layouts.{end_of-each, end_of-least, length-fresh_bodies}
+use Rattle.tk_block.proofs.Layouts.{length-links_of, length-laid}
 use Rattle.tk_append.proofs.PiecesSteps.{all_written}
 use Rattle.tk_append.proofs.FreshSteps.{words_text-heads}
 use Rattle.tk_append.proofs.fresh.write_records.Goals as goal
