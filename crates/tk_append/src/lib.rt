@@ -7,3 +7,6 @@ mod fresh;
 mod pieces;
 
 pub use fresh::write_fresh;
+
+#[cfg(test)]
+mod tests;

@@ -1,0 +1,72 @@
+ghost use Rattle.std.specs.Prelude.{◌≡◌, ◌≤◌, ◌∷◌, ◌++◌, [], length, IfOk, OnOk};
+
+use super::*;
+use std::alloc::Global;
+use std::test::Fail;
+use tk_block::StaticHead;
+use tk_disk::MemDisk;
+use tk_model::{Bytes, FaultList, NoMemory, Pair, PairList, fnv64};
+
+fn head_of(kind: u8, p: u8) -> StaticHead
+    ensures { result ≡ record { kind = kind; version = 1; p = p; order = 0; generation = 0 } }
+{
+    StaticHead {
+        kind,
+        version: 1,
+        p,
+        order: 0,
+        generation: 0,
+    }
+}
+
+fn empty_disk(alloc: Global) -> Result<MemDisk, NoMemory> {
+    MemDisk::new(alloc, Bytes::new(alloc), 4_000_000, FaultList::new(alloc))
+}
+
+fn add(alloc: Global, pairs: &mut PairList, key: &[u8], value: &[u8]) -> Result<(), NoMemory>
+    ensures { OnOk result (pairs.new ≡ pairs.old ++ record { key = key.now; value = value.now } ∷ []) }
+{
+    let key = Bytes::from_slice(alloc, key)?;
+    let value = Bytes::from_slice(alloc, value)?;
+    pairs.push(Pair { key, value })
+}
+
+/// The length of what the disk holds, and its hash.
+fn sum_of(disk: &MemDisk) -> (usize, u64) {
+    let bytes = disk.bytes();
+    (bytes.len(), fnv64(bytes))
+}
+
+#[test]
+fn three_records_in_one_bucket(rt: HostRuntime) -> Result<(), Fail> {
+    let alloc = rt.alloc();
+    let mut pairs = PairList::new(alloc);
+    add(alloc, &mut pairs, b"a", b"1")?;
+    add(alloc, &mut pairs, b"b", b"22")?;
+    add(alloc, &mut pairs, b"c", b"")?;
+    let mut disk = empty_disk(alloc)?;
+    write_fresh(alloc, &mut disk, &head_of(1, 0), &pairs)?;
+    assert_eq!(rt; sum_of(&disk), (216, 0x92dfccc26f125f30));
+    Ok(())
+}
+
+#[test]
+fn no_records(rt: HostRuntime) -> Result<(), Fail> {
+    let alloc = rt.alloc();
+    let mut disk = empty_disk(alloc)?;
+    write_fresh(alloc, &mut disk, &head_of(1, 0), &PairList::new(alloc))?;
+    assert_eq!(rt; sum_of(&disk), (72, 0x71c84c289f5a334c));
+    Ok(())
+}
+
+#[test]
+fn an_updating_file(rt: HostRuntime) -> Result<(), Fail> {
+    let alloc = rt.alloc();
+    let mut pairs = PairList::new(alloc);
+    add(alloc, &mut pairs, b"a", b"1")?;
+    add(alloc, &mut pairs, b"b", b"22")?;
+    let mut disk = empty_disk(alloc)?;
+    write_fresh(alloc, &mut disk, &head_of(2, 0), &pairs)?;
+    assert_eq!(rt; sum_of(&disk), (168, 0x8ca89d64b967e769));
+    Ok(())
+}
