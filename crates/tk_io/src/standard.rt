@@ -10,8 +10,8 @@ use std::marker::Model;
 #[derive(Drop)]
 struct Refused;
 
-#[tactic(auto, using(crate::proofs::Known::Keeps_then, crate::proofs::Known::Keeps_Consumes, crate::proofs::Known::Keeps_same))]
 /// One read, again where a signal broke it off.
+#[tactic(auto, using(crate::proofs::Known::Keeps_then, crate::proofs::Known::Keeps_Consumes, crate::proofs::Known::Keeps_same))]
 fn read_once<R: Read>(reader: &mut R, into: &mut [u8]) -> Result<usize, Refused>
     ensures bound { IfOk result (λ n. n ≤ length into.old) }
     ensures bytes { IfOk result (λ n. Consumes (R.remaining reader.old) (R.remaining reader.new) (take n into.new)) }
@@ -28,8 +28,8 @@ fn read_once<R: Read>(reader: &mut R, into: &mut [u8]) -> Result<usize, Refused>
     Err(Refused)
 }
 
-#[tactic(auto, using(crate::proofs::Known::Keeps_then, crate::proofs::Known::Keeps_Appends, crate::proofs::Known::Keeps_same))]
 /// One write, again where a signal broke it off.
+#[tactic(auto, using(crate::proofs::Known::Keeps_then, crate::proofs::Known::Keeps_Appends, crate::proofs::Known::Keeps_same))]
 fn write_once<W: Write>(writer: &mut W, bytes: &[u8]) -> Result<usize, Refused>
     ensures bound { IfOk result (λ n. n ≤ length bytes.now) }
     ensures some { IfOk result (λ n. 0 < n) }
