@@ -1,4 +1,5 @@
 ghost use Rattle.std.specs.Prelude.{◌≡◌, ◌≤◌, ◌∷◌, ◌++◌, [], length, IfOk, OnOk};
+ghost use Rattle.tk_disk.specs.MemDisk.{mem_bytes};
 
 use super::*;
 use std::alloc::Global;
@@ -19,7 +20,9 @@ fn head_of(kind: u8, p: u8) -> StaticHead
     }
 }
 
-fn empty_disk(alloc: Global) -> Result<MemDisk, NoMemory> {
+fn empty_disk(alloc: Global) -> Result<MemDisk, NoMemory>
+    ensures { IfOk result (λ d. mem_bytes d ≡ []) }
+{
     MemDisk::new(alloc, Bytes::new(alloc), 4_000_000, FaultList::new(alloc))
 }
 
