@@ -4,6 +4,7 @@ use Rattle.tk_disk.specs.declared.dir_folder.DirFolder.{DirFolder}
 use Rattle.tk_disk.specs.declared.dir_folder.Visit.{Visit}
 use Rattle.tk_disk.specs.Places.{held_at}
 
+-- what is known of a name, where it was ever asked for
 abbrev pub visit_is_out : Option Visit → Bool
 visit_is_out None = false
 visit_is_out (Some visit) = visit.out

@@ -12,6 +12,7 @@ use Rattle.tk_disk.specs.Disk.{capped}
 use Rattle.tk_disk.specs.MemDisk.{mem_bytes, mem_room, mem_list, mem_calls, mem_faults, mem_taken, mem_moment, is_listed, MemMayLeave, MemLeftSince}
 use Rattle.tk_disk.specs.Places.{held_at}
 
+-- what a name's slot, or its absence, says: its disk, what its file holds, whether the disk is out, and its count of faults
 abbrev pub slot_disk : Option Slot → Option MemDisk
 slot_disk None = None
 slot_disk (Some (Here d)) = Some d

@@ -62,6 +62,7 @@ impl<R: Drop> DirFolder<R> {
     ghost use Rattle.tk_disk.specs.DirFolder.{dir_is_out, dir_disk_faults, dir_faults};
     ghost use Rattle.tk_disk.specs.Folder.{NoneOut};
 
+    /// Over the system's files, as `&rt` gives them.
     pub fn new(files: R, alloc: Global, directory: &str) -> Result<DirFolder<R>, NoMemory>
         ensures out { IfOk result (λ f. NoneOut (dir_is_out f)) }
         ensures disk_faults { IfOk result (λ f. (name : List ℕ) → dir_disk_faults f name ≡ 0) }
