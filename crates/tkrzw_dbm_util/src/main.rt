@@ -1,7 +1,8 @@
 //! The command `tkrzw_dbm_util`, run in its current directory.
 #![tactic(auto)]
 
-ghost use Rattle.std.specs.Prelude.{IfOk};
+ghost use Rattle.std.specs.Prelude.{◌≡◌, ◌⊎◌, IfOk};
+ghost use Rattle.tk_status.specs.Finish.{ended};
 ghost use Rattle.tk_disk.specs.Folder.{NoneOut};
 ghost use Rattle.tk_disk.specs.DirFolder.{dir_is_out};
 
@@ -20,7 +21,9 @@ fn words_of(rt: &HostRuntime) -> io::Result<Vec<String>> {
 }
 
 /// Words that are no text are a faulty command line.
-fn finish_of(error: io::Error) -> Finish {
+fn finish_of(error: io::Error) -> Finish
+    ensures { (result ≡ ended 5) ⊎ (result ≡ ended 1) }
+{
     match error.kind() {
         io::ErrorKind::OutOfMemory => Finish::with(5),
         _ => Finish::with(1),
