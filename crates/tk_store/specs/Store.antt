@@ -52,11 +52,16 @@ pub record Block : Type 0 where
   pub value : List ℕ
   pub number : ℕ
 
+-- a page of a tree
+pub record Page : Type 0 where
+  pub page_number : ℕ
+  pub text : List ℕ
+
 -- what a file held at the opening, in the words of its kind
 pub data Held : Type 0 where
   Groups : List Group → Held
   Blocks : List Block → Held
-  Pages : List Pair → Held
+  Pages : List Page → Held
   Records : Held
 
 -- the opening

@@ -2,8 +2,10 @@
 #![tactic(auto)]
 
 mod error;
+mod run;
 mod store;
 
 pub use error::StoreError;
+pub use run::run_on;
 pub use store::SeqStore;
 pub use tk_model::{OpenError, ShardOf, Unopened};
