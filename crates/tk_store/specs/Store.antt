@@ -1,5 +1,5 @@
 -- What a sequential store is, and what its calls do.
-use Rattle.std.specs.Prelude.{◌≡◌, ℕ, ◌+◌, ◌-◌, ◌*◌, ◌/◌, ◌≤◌, ◌^◌, min, max, Bool, true, false, not, ◌&&◌, ◌==◌, nat_lt, List, [], ◌∷◌, ◌++◌, length, take, drop, Option, Some, None, IfSome, Result, Ok, Err, OnOk, IsErrOf, ◌⊎◌, if◌then◌else◌}
+use Rattle.std.specs.Prelude.{◌≡◌, ℕ, ◌+◌, ◌-◌, ◌*◌, ◌/◌, ◌≤◌, ◌^◌, min, max, Bool, true, false, not, ◌&&◌, ◌==◌, nat_lt, List, [], ◌∷◌, ◌++◌, length, take, drop, Option, Some, None, IfSome, Result, Ok, Err, OnOk, IsErrOf, ◌⊎◌, sum_by, if◌then◌else◌}
 use Rattle.tk_store.specs.declared.error.StoreError.{StoreError}
 use Rattle.tk_store.specs.declared.error.StoreError.TheVariants as errors
 use Rattle.tk_model.specs.declared.record.Order.{Order}
@@ -96,9 +96,10 @@ extent_for room = max 48 ((room + 7) / 8 * 8)
 abbrev pub extent_of : (version : ℕ) → Change → ℕ
 extent_of version c = extent_for (overhead version + length_of c)
 
--- what a list without changes needs where extents count: the extent of a mark, or nothing
-abbrev pub mark_need : Nature → (version : ℕ) → ℕ
-mark_need n version = if n.marks && n.writable then extent_for (overhead version) else 0
+-- what a list of changes needs where extents count: their sum; without changes the extent of a mark, or nothing
+abbrev pub extents_need : Nature → (version : ℕ) → List Change → ℕ
+extents_need n version [] = if n.marks && n.writable then extent_for (overhead version) else 0
+extents_need n version (c ∷ cs) = sum_by (extent_of version) (c ∷ cs)
 
 abbrev pub is_empty : List Change → Bool
 is_empty [] = true

@@ -58,8 +58,8 @@ fn status_of(action: &Action) -> Status
     }
 }
 
-/// Reserves a group and makes it.
-fn put_group<S: SeqStore>(
+/// Reserves a group and makes it, where there are changes.
+fn put_changes<S: SeqStore>(
     store: &mut S,
     changes: &ChangeList,
     number: u64,
@@ -68,18 +68,17 @@ fn put_group<S: SeqStore>(
     requires open { (S.shown store.old).closed ≡ false }
     requires alone { IsClearAlone changes.now }
     requires fit { AllFit changes.now }
-    requires writable { (S.nature store.old).writable ≡ true }
-    requires number { (S.shown store.old).floor ≤ number }
+    requires may { (changes.now ≡ []) ⊎ (((S.nature store.old).writable ≡ true) × ((S.shown store.old).floor ≤ number)) }
     ensures map { OnOk result ((S.shown store.new).map ≡ option_map (after (S.nature store.old).order changes.now) (S.shown store.old).map) }
-    ensures floor { OnOk result ((S.shown store.new).floor ≡ floor_after (S.shown store.old).floor (made (S.nature store.old) number changes.now)) }
-    ensures size { (v need : ℕ) → (S.nature store.old).extents ≡ Some v → (S.shown store.old).needs changes.now ≡ Some need
-        → OnOk result ((S.shown store.new).size ≡ (S.shown store.old).size + need) }
+    ensures floor { OnOk result ((S.shown store.new).floor ≡ floor_after (S.shown store.old).floor (group_of number changes.now)) }
+    ensures size { (v : ℕ) → (S.nature store.old).extents ≡ Some v
+        → OnOk result ((S.shown store.new).size ≡ (S.shown store.old).size + sum_by (extent_of v) changes.now) }
     ensures stands { (first : First) (since : List Group) (hard : ℕ) → S.stands store.old first since hard
-        → OnOk result (S.stands store.new first (since ++ made (S.nature store.old) number changes.now) hard) }
+        → OnOk result (S.stands store.new first (since ++ group_of number changes.now) hard) }
     ensures since { (t n : ℕ) (first : First) (since : List Group) (hard : ℕ) → S.stood store.old t n first since hard
-        → OnOk result (S.stood store.new t n first (since ++ made (S.nature store.old) number changes.now) hard) }
-    ensures safe { LeavesSafe S.stood S.safe (made (S.nature store.old) number changes.now) store.old store.new }
-    ensures full { TellsFull (S.nature store.old) (S.shown store.old) changes.now result }
+        → OnOk result (S.stood store.new t n first (since ++ group_of number changes.now) hard) }
+    ensures safe { LeavesSafe S.stood S.safe (group_of number changes.now) store.old store.new }
+    ensures full { TellsFullOfChanges (S.nature store.old) (S.shown store.old) changes.now result }
     ensures whole { UnlessFault result (IsWhole S.stands store.new) }
     ensures refused { OnErr result (UnlessFault result (Keeps S.stands store.old store.new × KeepsSince S.stood store.old store.new × SameContents (S.shown store.old) (S.shown store.new))) }
     ensures unchanged { OnFull result (S.shown store.new ≡ S.shown store.old) }
@@ -89,6 +88,9 @@ fn put_group<S: SeqStore>(
     ensures taken { S.taken_count store.old ≤ S.taken_count store.new }
     ensures cause { HasCause (S.fault_count store.old) (S.fault_count store.new) result }
 {
+    if changes.is_empty() {
+        return Ok(());
+    }
     store.reserve_group(changes)?;
     store.apply_reserved(number)
 }
@@ -133,8 +135,6 @@ pub fn run_on<S: SeqStore, P: RecordProcessor>(
     let action = ask(p, key, was)?;
     let status = status_of(&action);
     let changes = changes_of(alloc, key, was, action)?;
-    if !changes.is_empty() {
-        put_group(store, &changes, number)?;
-    }
+    put_changes(store, &changes, number)?;
     Ok(status)
 }

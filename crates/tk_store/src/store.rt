@@ -1,10 +1,10 @@
-ghost use Rattle.std.specs.Prelude.{◌≡◌, ◌+◌, ◌-◌, ◌≤◌, ◌<◌, ◌^◌, ℕ, Bool, true, false, List, [], ◌∷◌, ◌++◌, length, Option, Some, None, IfOk, OnOk, OnErr, IfSome, sum_by, if◌then◌else◌};
+ghost use Rattle.std.specs.Prelude.{◌≡◌, ◌+◌, ◌-◌, ◌≤◌, ◌<◌, ◌^◌, ℕ, Bool, true, false, List, [], ◌∷◌, ◌++◌, length, Option, Some, None, IfOk, OnOk, OnErr, IfSome, if◌then◌else◌};
 ghost use Rattle.std.specs.Option.{option_map};
 ghost use Rattle.tk_model.specs.declared.record.Group.{Group};
 ghost use Rattle.tk_model.specs.declared.record.Change.{Change};
 ghost use Rattle.tk_model.specs.declared.record.Pair.{Pair};
 ghost use Rattle.tk_model.specs.Records.{find, first_within, last_within, after, replay, Rising, IsClearAlone, AllFit, AllHeld};
-ghost use Rattle.tk_store.specs.Store.{Nature, Shown, First, made, floor_after, extent_of, mark_need, HasCause, NeverFull, OkOrFault, UnlessFault, OnFull, TellsFull, Gives, GivesInto, SameContents, IsWhole, Keeps, KeepsSince, LeavesSafe};
+ghost use Rattle.tk_store.specs.Store.{Nature, Shown, First, made, floor_after, extents_need, HasCause, NeverFull, OkOrFault, UnlessFault, OnFull, TellsFull, Gives, GivesInto, SameContents, IsWhole, Keeps, KeepsSince, LeavesSafe};
 
 use crate::StoreError;
 use tk_model::{Bound, Bytes, ChangeList, Order, Pair};
@@ -239,9 +239,6 @@ pub trait SeqStore {
 
     ghost safe_less: { (s : Self) (t : ℕ) (first : First) (since more : List Group) (m n : ℕ) → m ≤ n → safe s t first since n → safe s t first (since ++ more) m };
 
-    /// A store that counts by extents needs the sum of the extents, whatever it holds.
-    ghost by_extents: { (s : Self) (v : ℕ) (c : Change) (cs : List Change) → (nature s).extents ≡ Some v → (shown s).needs (c ∷ cs) ≡ Some (sum_by (extent_of v) (c ∷ cs)) };
-
-    /// A list without changes needs nothing there, or a mark.
-    ghost by_marks: { (s : Self) (v : ℕ) → (nature s).extents ≡ Some v → (shown s).needs [] ≡ Some (mark_need (nature s) v) };
+    /// A store that counts by extents needs so much, whatever it holds.
+    ghost by_extents: { (s : Self) (v : ℕ) (changes : List Change) → (nature s).extents ≡ Some v → (shown s).needs changes ≡ Some (extents_need (nature s) v changes) };
 }
