@@ -2,6 +2,8 @@
 #![tactic(auto)]
 
 mod error;
+mod memory;
+mod records;
 mod run;
 mod store;
 
