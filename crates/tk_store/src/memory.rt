@@ -29,6 +29,7 @@ impl MemStore {
     pub fn new(alloc: Global, order: Order, room: u64) -> MemStore
         ensures stands { MemStands result (record { records = []; held = Records }) [] 0 }
         ensures open { (mem_shown result).closed ≡ false }
+        ensures floor { (mem_shown result).floor ≡ 0 }
         ensures writable { (mem_nature result).writable ≡ true }
     {
         MemStore {

@@ -1,9 +1,9 @@
-ghost use Rattle.std.specs.Prelude.{◌≡◌, ◌≤◌, ◌+◌, ◌++◌, ◌⊎◌, [], List, ℕ, Option, Some, None, true, false, length, IfSome, IfOk, OnOk, OnErr, sum_by};
+ghost use Rattle.std.specs.Prelude.{◌≡◌, ◌≤◌, ◌+◌, ◌++◌, ◌⊎◌, [], List, ℕ, Option, Some, None, true, false, length, IfSome, IfOk, OnOk, OnErr, sum_by, max};
 ghost use Rattle.std.specs.Option.{option_map, option_copied};
 ghost use Rattle.tk_model.specs.declared.record.Action.TheVariants.{Keep};
 ghost use Rattle.tk_model.specs.declared.record.Group.{Group};
 ghost use Rattle.tk_model.specs.Records.{find, after, AllFit, IsClearAlone};
-ghost use Rattle.tk_model.specs.Entries.{group_of};
+ghost use Rattle.tk_model.specs.Entries.{group_of, touched};
 ghost use Rattle.tk_proc.specs.Runs.{short, short_status, action_changes};
 ghost use Rattle.tk_store.specs.Store.{First, made, floor_after, extent_of, HasCause, UnlessFault, OnFull, Keeps, KeepsSince, LeavesSafe, IsWhole, TellsFull, SameContents};
 ghost use Rattle.tk_store.specs.OneRecord.{call_changes, TurnsTo, TellsFullOfChanges};
@@ -71,6 +71,7 @@ fn put_changes<S: SeqStore>(
     requires may { (changes.now ≡ []) ⊎ (((S.nature store.old).writable ≡ true) × ((S.shown store.old).floor ≤ number)) }
     ensures map { OnOk result ((S.shown store.new).map ≡ option_map (after (S.nature store.old).order changes.now) (S.shown store.old).map) }
     ensures floor { OnOk result ((S.shown store.new).floor ≡ floor_after (S.shown store.old).floor (group_of number changes.now)) }
+    ensures next { UnlessFault result ((S.shown store.new).floor ≤ max (S.shown store.old).floor (number + 1)) }
     ensures size { (v : ℕ) → (S.nature store.old).extents ≡ Some v
         → OnOk result ((S.shown store.new).size ≡ (S.shown store.old).size + sum_by (extent_of v) changes.now) }
     ensures stands { (first : First) (since : List Group) (hard : ℕ) → S.stands store.old first since hard
@@ -109,9 +110,10 @@ pub fn run_on<S: SeqStore, P: RecordProcessor>(
     requires may { ((was : Option (List ℕ)) → P.acts p.old key.now was ≡ Keep) ⊎ (((S.nature store.old).writable ≡ true) × ((S.shown store.old).floor ≤ number)) }
     ensures status { IfSome (S.shown store.old).map (λ m. IfOk result (λ s. s ≡ short_status (P.acts p.old key.now (find key.now m)))) }
     ensures turned { IfSome (S.shown store.old).map (λ m. TurnsTo result p.old (P.turns p.old key.now (find key.now m)) p.new) }
-    ensures map { IfSome (S.shown store.old).map (λ m. OnOk result ((S.shown store.new).map ≡ Some (after (S.nature store.old).order (call_changes P.acts p.old key.now m) m))) }
+    ensures map { IfSome (S.shown store.old).map (λ m. OnOk result ((S.shown store.new).map ≡ Some (touched (S.nature store.old).order key.now (short (P.acts p.old key.now (find key.now m))) m))) }
     ensures floor { IfSome (S.shown store.old).map (λ m.
         OnOk result ((S.shown store.new).floor ≡ floor_after (S.shown store.old).floor (group_of number (call_changes P.acts p.old key.now m)))) }
+    ensures next { UnlessFault result ((S.shown store.new).floor ≤ max (S.shown store.old).floor (number + 1)) }
     ensures size { IfSome (S.shown store.old).map (λ m. (v : ℕ) → (S.nature store.old).extents ≡ Some v
         → OnOk result ((S.shown store.new).size ≡ (S.shown store.old).size + sum_by (extent_of v) (call_changes P.acts p.old key.now m))) }
     ensures stands { IfSome (S.shown store.old).map (λ m. (first : First) (since : List Group) (hard : ℕ) → S.stands store.old first since hard

@@ -1,6 +1,6 @@
 use Rattle.std.proofs.Common.{rules, ◌≡◌, ◌∙◌, ap, [], ◌++◌, Some, sum_by, true, false}
 use Rattle.tk_store.specs.Store.{made, extent_of}
-use Rattle.tk_store.proofs.Whole.{stays_whole, sum_needed}
+use Rattle.tk_store.proofs.Whole.{stays_whole, sum_needed, stays_near}
 use Rattle.tk_store.proofs.run.put_changes.Goals as goal
 
 pub returns-clause-size : goal.returns-clause-size
@@ -20,3 +20,8 @@ returns-clause-whole g c =
     stays_whole g.S.SeqStore.stands c.apply_reserved.new.self c.apply_reserved.result first (since ++ made (g.S.SeqStore.nature c.reserve_group.new.self) c.args.number c.args.changes.now) hard
     c.apply_reserved.ensures.answers
     (c.apply_reserved.ensures.stands c.args.changes.now c.in_ok-reserve_group.ensures.prepared first since hard reserved)
+
+pub returns-clause-next : goal.returns-clause-next
+returns-clause-next g c =
+    stays_near c.apply_reserved.result (g.S.SeqStore.shown c.args.store.now).floor c.args.number (g.S.SeqStore.shown c.apply_reserved.new.self).floor c.args.changes.now
+    c.apply_reserved.ensures.answers (search rules)
