@@ -7,6 +7,7 @@ use Rattle.tk_model.specs.declared.record.Order.{Order}
 use Rattle.tk_model.specs.declared.record.Pair.{Pair}
 use Rattle.tk_model.specs.declared.record.Action.{Action}
 use Rattle.tk_model.specs.declared.record.Action.TheVariants as actions
+use Rattle.tk_proc.specs.Replies.{get_reply}
 use Rattle.tk_proc.specs.Runs.{action_changes, short}
 use Rattle.tk_store.specs.OneRecord.{call_changes}
 
@@ -32,3 +33,8 @@ pub reached : {P : Type 0} (acts : P → List ℕ → Option (List ℕ) → Acti
     → IfSome before (λ m. after_it ≡ Some (after o (call_changes acts p k m) m)) → IfSome before (λ m. after_it ≡ Some (touched o k (short (acts p k (find k m))) m))
 reached acts o p k None after_it e = tt
 reached acts o p k (Some m) after_it e = e ∙ ap Some (acted o k m (short (acts p k (find k m))))
+
+-- reading keeps every record
+pub get_keeps : (was : Option (List ℕ)) → (get_reply was).action ≡ actions.Keep
+get_keeps None = refl
+get_keeps (Some v) = refl

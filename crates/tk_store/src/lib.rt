@@ -11,3 +11,6 @@ pub use error::StoreError;
 pub use run::run_on;
 pub use store::SeqStore;
 pub use tk_model::{OpenError, ShardOf, Unopened};
+
+#[cfg(test)]
+mod tests;

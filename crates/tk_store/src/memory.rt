@@ -1,8 +1,8 @@
 ghost use Rattle.std.specs.Prelude.{◌≡◌, ◌+◌, ◌≤◌, [], IfOk, min, ◌^◌, true, false};
 ghost use Rattle.std.specs.Option.{option_copied};
 
-use crate::{SeqStore, StoreError};
 use crate::records::{copy_pair, first_pair, last_pair, passes, value_at, with_all};
+use crate::{SeqStore, StoreError};
 use std::alloc::Global;
 use std::mem;
 use tk_model::{Bound, Bytes, ChangeList, NoMemory, Order, Pair};

@@ -8,9 +8,9 @@ returns-clause-size g c v ext =
     let some : c.args.changes.now ≡ [] → ⊥ = λ e. let wrong : false ≡ true = c.if-is_empty.ensures.1 e in cc in
     let same = c.in_ok-reserve_group.ensures.extents v ext in
     let need : (g.S.SeqStore.shown c.args.store.now).needs c.args.changes.now ≡ Some (sum_by (extent_of v) c.args.changes.now) =
-      g.met.S.SeqStore.by_extents c.args.store.now v c.args.changes.now ext ∙ ap Some (sum_needed (g.S.SeqStore.nature c.args.store.now) v c.args.changes.now some) in
+    g.met.S.SeqStore.by_extents c.args.store.now v c.args.changes.now ext ∙ ap Some (sum_needed (g.S.SeqStore.nature c.args.store.now) v c.args.changes.now some) in
     let grown =
-      c.apply_reserved.ensures.size c.args.changes.now v (sum_by (extent_of v) c.args.changes.now) c.in_ok-reserve_group.ensures.prepared (rw c.in_ok-reserve_group.ensures.nature ext) (rw same need) in
+    c.apply_reserved.ensures.size c.args.changes.now v (sum_by (extent_of v) c.args.changes.now) c.in_ok-reserve_group.ensures.prepared (rw c.in_ok-reserve_group.ensures.nature ext) (rw same need) in
     rw (← same) grown
 
 pub returns-clause-whole : goal.returns-clause-whole
