@@ -1,7 +1,5 @@
 -- What changes keep of records, and how a store in memory goes on.
-use Rattle.std.proofs.Common.{◌≡◌, ℕ, ◌+◌, ◌<◌, ◌≤◌, ◌^◌, Bool, true, false, List, [], ◌∷◌, ◌++◌, length, Option, Some, None, refl, sym, ap, arith, length-append, rules, if◌then◌else◌, Fits, w32}
-use Rattle.std.proofs.lemmas.Grind.{common_steps}
-use Rattle.std.specs.Ordering.{nat_cmp}
+use Rattle.std.proofs.Common.{◌≡◌, ℕ, ◌+◌, ◌<◌, ◌≤◌, ◌^◌, Bool, true, false, List, [], ◌∷◌, ◌++◌, length, Some, refl, arith, length-append, if◌then◌else◌}
 use Rattle.std.specs.declared.cmp.Ordering.{Ordering}
 use Rattle.std.specs.declared.cmp.Ordering.TheVariants.{Less, Equal, Greater}
 use Rattle.tk_model.specs.declared.record.Order.{Order}
@@ -9,10 +7,10 @@ use Rattle.tk_model.specs.declared.record.Pair.{Pair}
 use Rattle.tk_model.specs.declared.record.Group.{Group}
 use Rattle.tk_model.specs.declared.record.Change.{Change}
 use Rattle.tk_model.specs.declared.record.Change.TheVariants as changes
-use Rattle.tk_model.specs.Records.{find, put, put_by, without, after_one, after, replay, AllFit, AllHeld}
+use Rattle.tk_model.specs.Records.{find, put, put_by, without, after, replay, AllFit, AllHeld}
 use Rattle.tk_model.specs.Orders.{same_bytes, key_cmp}
 use Rattle.tk_store.specs.Store.{First, made, floor_after}
-use Rattle.tk_store.specs.Memory.{MemStands, MemPrepared, mem_nature, floor_of}
+use Rattle.tk_store.specs.Memory.{MemStands, MemPrepared, mem_nature}
 use Rattle.tk_store.specs.declared.memory.MemStore.{MemStore}
 
 pick_fits : (b : Bool) (k : List ℕ) (p : Pair) (ps : List Pair) (v : List ℕ) → AllHeld (p ∷ ps) → ((u : List ℕ) → find k ps ≡ Some u → length u ≤ 33554431) → (if b then Some p.value else find k ps) ≡ Some v → length v ≤ 33554431

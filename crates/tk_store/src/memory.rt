@@ -31,6 +31,8 @@ impl MemStore {
         ensures open { (mem_shown result).closed ≡ false }
         ensures floor { (mem_shown result).floor ≡ 0 }
         ensures writable { (mem_nature result).writable ≡ true }
+        ensures order { (mem_nature result).order ≡ order }
+        ensures limit { (mem_nature result).limit ≡ min room (2 ^ 40) }
     {
         MemStore {
             alloc,
