@@ -1,0 +1,4 @@
+pub mod Store
+pub mod OneRecord
+pub mod Memory
+pub mod MemoryLaws

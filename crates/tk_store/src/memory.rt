@@ -1,0 +1,205 @@
+ghost use Rattle.std.specs.Prelude.{◌≡◌, ◌+◌, ◌≤◌, [], IfOk, min, ◌^◌, true, false};
+ghost use Rattle.std.specs.Option.{option_copied};
+
+use crate::records::{copy_pair, first_pair, last_pair, passes, value_at, with_all};
+use crate::{SeqStore, StoreError};
+use std::alloc::Global;
+use std::mem;
+use tk_model::{Bound, Bytes, ChangeList, NoMemory, Order, Pair};
+
+/// A store in memory.
+#[derive(Drop)]
+pub struct MemStore {
+    alloc: Global,
+    order: Order,
+    room: u64,
+    writable: bool,
+    last: Option<u64>,
+    closed: bool,
+    pairs: Vec<Pair>,
+    staged: Vec<Pair>,
+    grows: bool,
+}
+
+impl MemStore {
+    ghost use Rattle.tk_store.specs.Memory.{MemStands, mem_shown, mem_nature};
+    ghost use Rattle.tk_store.specs.Store.{Records};
+
+    /// An empty store.
+    pub fn new(alloc: Global, order: Order, room: u64) -> MemStore
+        ensures stands { MemStands result (record { records = []; held = Records }) [] 0 }
+        ensures open { (mem_shown result).closed ≡ false }
+        ensures floor { (mem_shown result).floor ≡ 0 }
+        ensures writable { (mem_nature result).writable ≡ true }
+        ensures order { (mem_nature result).order ≡ order }
+        ensures limit { (mem_nature result).limit ≡ min room (2 ^ 40) }
+    {
+        MemStore {
+            alloc,
+            order,
+            room,
+            writable: true,
+            last: None,
+            closed: false,
+            pairs: Vec::new(alloc),
+            staged: Vec::new(alloc),
+            grows: false,
+        }
+    }
+}
+
+fn copied_pair(alloc: Global, found: Option<&Pair>) -> Result<Option<Pair>, NoMemory>
+    ensures { IfOk result (λ o. o ≡ option_copied found.entry) }
+{
+    match found {
+        Some(pair) => Ok(Some(copy_pair(alloc, pair)?)),
+        None => Ok(None),
+    }
+}
+
+impl SeqStore for MemStore {
+    ghost use Rattle.std.specs.Prelude.{true, Bool};
+    ghost use Rattle.tk_store.specs.Memory.{MemStands, MemPrepared, mem_shown, mem_nature};
+    ghost use Rattle.tk_store.specs.MemoryLaws.{mem_replays, mem_rising, mem_held, mem_numbered, mem_synced, mem_by_extents};
+
+    ghost nature = { mem_nature };
+
+    ghost shown = { mem_shown };
+
+    ghost stands = { MemStands };
+
+    ghost prepared = { MemPrepared };
+
+    ghost moment = { λ s. 0 };
+
+    ghost safe = { λ s t first groups n. Unit {0} };
+
+    ghost stood = { λ s t n. MemStands s };
+
+    ghost lawful = { λ m. true };
+
+    ghost fault_count = { λ s. 0 };
+
+    ghost taken_count = { λ s. 0 };
+
+    ghost replays = { mem_replays };
+
+    ghost rising = { mem_rising };
+
+    ghost held = { mem_held };
+
+    ghost numbered = { mem_numbered };
+
+    ghost synced = { mem_synced };
+
+    ghost stood_now = { λ s first since hard st. st };
+
+    ghost stood_less = { λ s t m n first since hard le st. st };
+
+    ghost stood_stands = { λ s t n first since hard st. st };
+
+    ghost stood_safe = { λ s t n first since hard st. tt };
+
+    ghost safe_less = { λ s t first since more m n less safe. tt };
+
+    ghost by_extents = { mem_by_extents };
+
+    fn faults(&self) -> u64 {
+        0
+    }
+
+    fn taken(&self) -> u64 {
+        0
+    }
+
+    fn size(&self) -> u64 {
+        self.pairs.as_slice().len() as u64
+    }
+
+    fn limit(&self) -> u64 {
+        self.room.min(1 << 40)
+    }
+
+    fn order(&self) -> Order {
+        self.order
+    }
+
+    fn next_number(&self) -> u64 {
+        0
+    }
+
+    fn count(&self) -> u64 {
+        self.pairs.as_slice().len() as u64
+    }
+
+    fn get(&mut self, key: &[u8], out: &mut Bytes) -> Result<bool, StoreError> {
+        match value_at(&self.pairs, key) {
+            Some(value) => {
+                out.clear();
+                out.extend(value.as_slice())?;
+                Ok(true)
+            }
+            None => Ok(false),
+        }
+    }
+
+    #[tactic(auto, using(crate::proofs::Mem::found_fits))]
+    fn get_into(&mut self, key: &[u8], into: &mut [u8]) -> Result<Option<u32>, StoreError> {
+        match value_at(&self.pairs, key) {
+            Some(value) => {
+                let n = into.len().min(value.len());
+                into[..n].copy_from_slice(&value.as_slice()[..n]);
+                Ok(Some(value.len() as u32))
+            }
+            None => Ok(None),
+        }
+    }
+
+    fn next(&mut self, bound: &Bound) -> Result<Option<Pair>, StoreError> {
+        let found = first_pair(&self.pairs, &self.order, bound);
+        Ok(copied_pair(self.alloc, found)?)
+    }
+
+    fn prev(&mut self, bound: &Bound) -> Result<Option<Pair>, StoreError> {
+        let found = last_pair(&self.pairs, &self.order, bound);
+        Ok(copied_pair(self.alloc, found)?)
+    }
+
+    fn check_group(&mut self, changes: &ChangeList) -> Result<u64, StoreError> {
+        let staged = with_all(self.alloc, &self.order, &self.pairs, changes.as_slice())?;
+        let size = self.pairs.as_slice().len() as u64;
+        Ok((staged.as_slice().len() as u64).saturating_sub(size))
+    }
+
+    fn reserve_group(&mut self, changes: &ChangeList) -> Result<(), StoreError> {
+        let staged = with_all(self.alloc, &self.order, &self.pairs, changes.as_slice())?;
+        let size = self.pairs.as_slice().len() as u64;
+        let need = (staged.as_slice().len() as u64).saturating_sub(size);
+        let limit = self.room.min(1 << 40);
+        let empty = changes.len() == 0;
+        if passes(size, need, limit, empty) {
+            return Err(StoreError::Full { size, need, limit });
+        }
+        self.staged = staged;
+        self.grows = !empty;
+        Ok(())
+    }
+
+    #[tactic(auto, using(crate::proofs::Mem::applied))]
+    fn apply_reserved(&mut self, number: u64) -> Result<(), StoreError> {
+        if self.grows {
+            mem::swap(&mut self.pairs, &mut self.staged);
+            self.last = Some(number);
+        }
+        Ok(())
+    }
+
+    fn sync(&mut self, _hard: bool) -> Result<(), StoreError> {
+        Ok(())
+    }
+
+    fn close(&mut self, _next: u64) -> Result<(), StoreError> {
+        self.closed = true;
+        Ok(())
+    }
+}

@@ -1,0 +1,244 @@
+ghost use Rattle.std.specs.Prelude.{◌≡◌, ◌+◌, ◌-◌, ◌≤◌, ◌<◌, ◌^◌, ℕ, Bool, true, false, List, [], ◌∷◌, ◌++◌, length, Option, Some, None, IfOk, OnOk, OnErr, IfSome, if◌then◌else◌};
+ghost use Rattle.std.specs.Option.{option_map};
+ghost use Rattle.tk_model.specs.declared.record.Group.{Group};
+ghost use Rattle.tk_model.specs.declared.record.Change.{Change};
+ghost use Rattle.tk_model.specs.declared.record.Pair.{Pair};
+ghost use Rattle.tk_model.specs.Records.{find, first_within, last_within, after, replay, Rising, IsClearAlone, AllFit, AllHeld};
+ghost use Rattle.tk_store.specs.Store.{Nature, Shown, First, made, floor_after, extents_need, HasCause, NeverFull, OkOrFault, UnlessFault, OnFull, TellsFull, Gives, GivesInto, SameContents, IsWhole, Keeps, KeepsSince, LeavesSafe};
+
+use crate::StoreError;
+use tk_model::{Bound, Bytes, ChangeList, Order, Pair};
+
+/// A store for one caller.
+pub trait SeqStore {
+    /// What never changes.
+    ghost nature: { Self → Nature };
+
+    /// What calls change.
+    ghost shown: { Self → Shown };
+
+    /// The store stands for what its file held at the opening, the groups applied since, and how many of them were there at the last hard sync.
+    ghost stands: { Self → First → List Group → ℕ → Type 0 };
+
+    /// A list of changes is prepared.
+    ghost prepared: { Self → List Change → Type 0 };
+
+    /// The moment, as a number that doesn't fall.
+    ghost moment: { Self → ℕ };
+
+    /// At each moment since a time every untorn image restores to the opening followed by a front of these groups, at least so many of them.
+    ghost safe: { Self → ℕ → First → List Group → ℕ → Type 0 };
+
+    /// It stands for the last three, and at each moment since the first number every untorn image has at least so many groups as the second says.
+    ghost stood: { Self → ℕ → ℕ → First → List Group → ℕ → Type 0 };
+
+    /// The law of the type: a test on the records of a whole set.
+    ghost lawful: { List Pair → Bool };
+
+    ghost fault_count: { Self → ℕ };
+
+    ghost taken_count: { Self → ℕ };
+
+    fn faults(&self) -> u64
+        ensures { result ≡ fault_count self.now };
+
+    fn taken(&self) -> u64
+        ensures { result ≡ taken_count self.now };
+
+    fn size(&self) -> u64
+        ensures { result ≡ (shown self.now).size };
+
+    fn limit(&self) -> u64
+        ensures value { result ≡ (nature self.now).limit }
+        ensures most { result ≤ 2 ^ 40 };
+
+    fn order(&self) -> Order
+        ensures { result ≡ (nature self.now).order };
+
+    fn next_number(&self) -> u64
+        ensures { result ≡ (nature self.now).next };
+
+    /// The number of records, unless the store must be given up.
+    fn count(&self) -> u64
+        ensures { IsWhole stands self.now → IfSome (shown self.now).map (λ m. result ≡ length m) };
+
+    /// Answers as the records do.
+    fn get(&mut self, key: &[u8], out: &mut Bytes) -> Result<bool, StoreError>
+        requires whole { IsWhole stands self.old }
+        ensures value { IfSome (shown self.old).map (λ m. IfOk result (Gives (find key.now m) out.old out.new)) }
+        ensures cost { IfSome ((shown self.old).cost key.now) (λ most. taken_count self.new ≤ taken_count self.old + most) }
+        ensures nature { nature self.new ≡ nature self.old }
+        ensures shown { shown self.new ≡ shown self.old }
+        ensures stands { Keeps stands self.old self.new }
+        ensures since { KeepsSince stood self.old self.new }
+        ensures time { moment self.old ≤ moment self.new }
+        ensures taken { taken_count self.old ≤ taken_count self.new }
+        ensures cause { HasCause (fault_count self.old) (fault_count self.new) result }
+        ensures never { NeverFull result };
+
+    /// Copies as many bytes as fit, and answers the value's length.
+    fn get_into(&mut self, key: &[u8], into: &mut [u8]) -> Result<Option<u32>, StoreError>
+        requires whole { IsWhole stands self.old }
+        ensures value { IfSome (shown self.old).map (λ m. IfOk result (GivesInto (find key.now m) into.old into.new)) }
+        ensures cost { IfSome ((shown self.old).cost key.now) (λ most. taken_count self.new ≤ taken_count self.old + most) }
+        ensures nature { nature self.new ≡ nature self.old }
+        ensures shown { shown self.new ≡ shown self.old }
+        ensures stands { Keeps stands self.old self.new }
+        ensures since { KeepsSince stood self.old self.new }
+        ensures time { moment self.old ≤ moment self.new }
+        ensures taken { taken_count self.old ≤ taken_count self.new }
+        ensures cause { HasCause (fault_count self.old) (fault_count self.new) result }
+        ensures never { NeverFull result };
+
+    /// The first record within the bound, going up.
+    fn next(&mut self, bound: &Bound) -> Result<Option<Pair>, StoreError>
+        requires whole { IsWhole stands self.old }
+        ensures value { IfSome (shown self.old).map (λ m. IfOk result (λ found. found ≡ first_within (nature self.old).order bound.now m)) }
+        ensures nature { nature self.new ≡ nature self.old }
+        ensures shown { shown self.new ≡ shown self.old }
+        ensures stands { Keeps stands self.old self.new }
+        ensures since { KeepsSince stood self.old self.new }
+        ensures time { moment self.old ≤ moment self.new }
+        ensures taken { taken_count self.old ≤ taken_count self.new }
+        ensures cause { HasCause (fault_count self.old) (fault_count self.new) result }
+        ensures never { NeverFull result };
+
+    /// The first record within the bound, going down.
+    fn prev(&mut self, bound: &Bound) -> Result<Option<Pair>, StoreError>
+        requires whole { IsWhole stands self.old }
+        ensures value { IfSome (shown self.old).map (λ m. IfOk result (λ found. found ≡ last_within (nature self.old).order bound.now m)) }
+        ensures nature { nature self.new ≡ nature self.old }
+        ensures shown { shown self.new ≡ shown self.old }
+        ensures stands { Keeps stands self.old self.new }
+        ensures since { KeepsSince stood self.old self.new }
+        ensures time { moment self.old ≤ moment self.new }
+        ensures taken { taken_count self.old ≤ taken_count self.new }
+        ensures cause { HasCause (fault_count self.old) (fault_count self.new) result }
+        ensures never { NeverFull result };
+
+    /// The bytes that the group needs.
+    fn check_group(&mut self, changes: &ChangeList) -> Result<u64, StoreError>
+        requires whole { IsWhole stands self.old }
+        requires alone { IsClearAlone changes.now }
+        requires fit { AllFit changes.now }
+        ensures value { IfSome ((shown self.old).needs changes.now) (λ need. IfOk result (λ n. n ≡ need)) }
+        ensures nature { nature self.new ≡ nature self.old }
+        ensures shown { shown self.new ≡ shown self.old }
+        ensures stands { Keeps stands self.old self.new }
+        ensures since { KeepsSince stood self.old self.new }
+        ensures time { moment self.old ≤ moment self.new }
+        ensures taken { taken_count self.old ≤ taken_count self.new }
+        ensures cause { HasCause (fault_count self.old) (fault_count self.new) result }
+        ensures never { NeverFull result };
+
+    /// Prepares the group, and changes nothing of the records. After a fault the store must be given up.
+    fn reserve_group(&mut self, changes: &ChangeList) -> Result<(), StoreError>
+        requires whole { IsWhole stands self.old }
+        requires open { (shown self.old).closed ≡ false }
+        requires alone { IsClearAlone changes.now }
+        requires fit { AllFit changes.now }
+        requires writable { (nature self.old).writable ≡ false → changes.now ≡ [] }
+        ensures full { TellsFull (nature self.old) (shown self.old) changes.now result }
+        ensures prepared { OnOk result (prepared self.new changes.now) }
+        ensures nature { nature self.new ≡ nature self.old }
+        ensures open { (shown self.new).closed ≡ false }
+        ensures contents { UnlessFault result (SameContents (shown self.old) (shown self.new)) }
+        ensures refused { OnFull result (shown self.new ≡ shown self.old) }
+        ensures extents { (v : ℕ) → (nature self.old).extents ≡ Some v → UnlessFault result (shown self.new ≡ shown self.old) }
+        ensures stands { UnlessFault result (Keeps stands self.old self.new) }
+        ensures since { UnlessFault result (KeepsSince stood self.old self.new) }
+        ensures safe { LeavesSafe stood safe [] self.old self.new }
+        ensures time { moment self.old ≤ moment self.new }
+        ensures taken { taken_count self.old ≤ taken_count self.new }
+        ensures cause { HasCause (fault_count self.old) (fault_count self.new) result };
+
+    /// Makes the prepared group. After a fault the store must be given up.
+    fn apply_reserved(&mut self, number: u64) -> Result<(), StoreError>
+        requires whole { IsWhole stands self.old }
+        requires prepared { (changes : List Change) × prepared self.old changes }
+        requires open { (shown self.old).closed ≡ false }
+        requires number { (nature self.old).writable ≡ true → (shown self.old).floor ≤ number }
+        ensures stands { (changes : List Change) → prepared self.old changes → (first : First) (since : List Group) (hard : ℕ) → stands self.old first since hard
+            → OnOk result (stands self.new first (since ++ made (nature self.old) number changes) hard) }
+        ensures map { (changes : List Change) → prepared self.old changes
+            → OnOk result ((shown self.new).map ≡ option_map (after (nature self.old).order changes) (shown self.old).map) }
+        ensures floor { (changes : List Change) → prepared self.old changes
+            → OnOk result ((shown self.new).floor ≡ floor_after (shown self.old).floor (made (nature self.old) number changes)) }
+        ensures size { (changes : List Change) (v need : ℕ) → prepared self.old changes → (nature self.old).extents ≡ Some v → (shown self.old).needs changes ≡ Some need
+            → OnOk result ((shown self.new).size ≡ (shown self.old).size + need) }
+        ensures flushed { prepared self.old [] → OnOk result ((shown self.new).held_back ≡ false) }
+        ensures since { (changes : List Change) → prepared self.old changes → (t n : ℕ) (first : First) (since : List Group) (hard : ℕ) → stood self.old t n first since hard
+            → OnOk result (stood self.new t n first (since ++ made (nature self.old) number changes) hard) }
+        ensures safe { (changes : List Change) → prepared self.old changes → LeavesSafe stood safe (made (nature self.old) number changes) self.old self.new }
+        ensures nature { nature self.new ≡ nature self.old }
+        ensures open { (shown self.new).closed ≡ false }
+        ensures time { moment self.old ≤ moment self.new }
+        ensures taken { taken_count self.old ≤ taken_count self.new }
+        ensures cause { HasCause (fault_count self.old) (fault_count self.new) result }
+        ensures answers { OkOrFault result };
+
+    /// After a hard sync all groups are kept by every crash. After a fault the store must be given up.
+    fn sync(&mut self, hard: bool) -> Result<(), StoreError>
+        requires whole { IsWhole stands self.old }
+        requires open { (shown self.old).closed ≡ false }
+        requires flushed { hard ≡ true → (shown self.old).held_back ≡ false }
+        ensures stands { (first : First) (since : List Group) (synced : ℕ) → stands self.old first since synced
+            → OnOk result (stands self.new first since (if hard then length since else synced)) }
+        ensures shown { OnOk result (shown self.new ≡ shown self.old) }
+        ensures since { (t n : ℕ) (first : First) (since : List Group) (synced : ℕ) → stood self.old t n first since synced
+            → OnOk result (stood self.new t n first since (if hard then length since else synced)) }
+        ensures safe { LeavesSafe stood safe [] self.old self.new }
+        ensures nature { nature self.new ≡ nature self.old }
+        ensures open { (shown self.new).closed ≡ false }
+        ensures time { moment self.old ≤ moment self.new }
+        ensures taken { taken_count self.old ≤ taken_count self.new }
+        ensures cause { HasCause (fault_count self.old) (fault_count self.new) result }
+        ensures answers { OkOrFault result };
+
+    /// Ends the file. A store that makes marks makes one. After a fault the store must be given up.
+    fn close(&mut self, next: u64) -> Result<(), StoreError>
+        requires whole { IsWhole stands self.old }
+        requires open { (shown self.old).closed ≡ false }
+        requires number { (nature self.old).writable ≡ true → (shown self.old).floor ≤ next }
+        requires below { (nature self.old).writable ≡ true → next < 2 ^ 64 - 1 }
+        ensures stands { (first : First) (since : List Group) (hard : ℕ) → stands self.old first since hard
+            → OnOk result (stands self.new first (since ++ made (nature self.old) next []) (length (since ++ made (nature self.old) next []))) }
+        ensures map { OnOk result ((shown self.new).map ≡ (shown self.old).map) }
+        ensures since { (t n : ℕ) (first : First) (since : List Group) (hard : ℕ) → stood self.old t n first since hard
+            → OnOk result (stood self.new t n first (since ++ made (nature self.old) next []) (length (since ++ made (nature self.old) next []))) }
+        ensures safe { LeavesSafe stood safe (made (nature self.old) next []) self.old self.new }
+        ensures nature { nature self.new ≡ nature self.old }
+        ensures closed { (shown self.new).closed ≡ true }
+        ensures time { moment self.old ≤ moment self.new }
+        ensures taken { taken_count self.old ≤ taken_count self.new }
+        ensures cause { HasCause (fault_count self.old) (fault_count self.new) result }
+        ensures never { NeverFull result };
+
+    /// The records are those of the opening after the groups.
+    ghost replays: { (s : Self) (first : First) (since : List Group) (hard : ℕ) → stands s first since hard
+        → IfSome (shown s).map (λ m. m ≡ replay (nature s).order since first.records) };
+
+    ghost rising: { (s : Self) (first : First) (since : List Group) (hard : ℕ) → stands s first since hard → Rising (nature s).order first.records };
+
+    /// No key and no value is too long for a file.
+    ghost held: { (s : Self) (first : First) (since : List Group) (hard : ℕ) → stands s first since hard → IfSome (shown s).map AllHeld };
+
+    /// The next group's number is above those of the groups.
+    ghost numbered: { (s : Self) (first : First) (since : List Group) (hard : ℕ) → stands s first since hard → (shown s).floor ≡ floor_after (nature s).next since };
+
+    ghost synced: { (s : Self) (first : First) (since : List Group) (hard : ℕ) → stands s first since hard → hard ≤ length since };
+
+    /// What a crash now may leave has all groups that were hard-synced.
+    ghost stood_now: { (s : Self) (first : First) (since : List Group) (hard : ℕ) → stands s first since hard → stood s (moment s) hard first since hard };
+
+    ghost stood_less: { (s : Self) (t m n : ℕ) (first : First) (since : List Group) (hard : ℕ) → m ≤ n → stood s t n first since hard → stood s t m first since hard };
+
+    ghost stood_stands: { (s : Self) (t n : ℕ) (first : First) (since : List Group) (hard : ℕ) → stood s t n first since hard → stands s first since hard };
+
+    ghost stood_safe: { (s : Self) (t n : ℕ) (first : First) (since : List Group) (hard : ℕ) → stood s t n first since hard → safe s t first since n };
+
+    ghost safe_less: { (s : Self) (t : ℕ) (first : First) (since more : List Group) (m n : ℕ) → m ≤ n → safe s t first since n → safe s t first (since ++ more) m };
+
+    /// A store that counts by extents needs so much, whatever it holds.
+    ghost by_extents: { (s : Self) (v : ℕ) (changes : List Change) → (nature s).extents ≡ Some v → (shown s).needs changes ≡ Some (extents_need (nature s) v changes) };
+}
