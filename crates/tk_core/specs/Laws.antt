@@ -1,0 +1,21 @@
+-- Each kind of move keeps the rule, and no state that meets the rule has a ring.
+use Rattle.std.specs.Prelude.{◌≡◌, ◌<◌, ℕ, Bool, true, false, List}
+use Rattle.tk_core.specs.declared.frame.Frame.{Frame}
+use Rattle.tk_core.specs.Caller.{Caller}
+use Rattle.tk_core.specs.Needs.{MayTake, MayMiss, MayGiveStripe, MayGiveStore, MayLook}
+use Rattle.tk_core.specs.Covers.{store_lock}
+use Rattle.tk_core.specs.Rings.{HasNoRing}
+use Rattle.tk_core.specs.States.{State, IsSound, IsCaller, after_take_stripe, after_take_store, after_miss, after_give_stripe, after_give_store, after_look}
+
+abbrev pub NoRings : Frame → Type 0
+NoRings f = (s : State) → IsSound f s → HasNoRing s.callers
+
+pub record LocksKeep (f : Frame) : Type 0 where
+  pub take_stripe : (s : State) (id : ℕ) (v : Caller) (l : ℕ) → IsSound f s → IsCaller s id v → l < f.stripes → MayTake f s.owner l v → IsSound f (after_take_stripe id v l s)
+  pub take_store : (s : State) (id : ℕ) (v : Caller) (i : ℕ) → IsSound f s → IsCaller s id v → MayTake f s.owner (store_lock f i) v → IsSound f (after_take_store f id v i s)
+  pub miss : (s : State) (id : ℕ) (v : Caller) (l : ℕ) → IsSound f s → IsCaller s id v → MayMiss f s.owner l v → IsSound f (after_miss id v l s)
+  pub give_stripe : (s : State) (id : ℕ) (v : Caller) (l : ℕ) → IsSound f s → IsCaller s id v → MayGiveStripe f l v → IsSound f (after_give_stripe id v l s)
+  pub give_store : (s : State) (id : ℕ) (v : Caller) (i : ℕ) → IsSound f s → IsCaller s id v → MayGiveStore f i v → IsSound f (after_give_store f id v i s)
+
+abbrev pub LookKeeps : Frame → Type 0
+LookKeeps f = (s : State) (id : ℕ) (v : Caller) → IsSound f s → IsCaller s id v → MayLook v → IsSound f (after_look id v s)

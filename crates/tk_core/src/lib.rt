@@ -1,0 +1,10 @@
+//! The pure core of one history under rising locks.
+#![tactic(auto)]
+
+mod frame;
+mod law;
+mod moves;
+
+pub use frame::Frame;
+pub use law::{locks_keep_the_rule, no_ring};
+pub use moves::{Move, MoveList};
