@@ -165,24 +165,42 @@ total_alone f [] i a p z = absurd (some-ne-none a (sym p))
 total_alone f (x ∷ xs) zero a p z = let h : f x ≡ f a = ap f (some-injective x a p) in let t = total_nought f xs (λ j b q. z (suc j) b (λ e. absurd (omega arith)) q) in omega arith
 total_alone f (x ∷ xs) (suc i) a p z = let h = z 0 x (λ e. absurd (omega arith)) refl in let t = total_alone f xs i a p (λ j b ne q. z (suc j) b (λ e. ne (omega arith)) q) in omega arith
 
+pub not_both : (b : Bool) → b ≡ true → b ≡ false → ⊥
+not_both true h d = cc (d)
+not_both false h d = cc (h)
+
 pub has_count : (x : ℕ) (xs : List ℕ) → has x xs ≡ true → 0 < count x xs
 has_count x [] h = absurd cc
 has_count x (y ∷ ys) h0 = by_test x y (λ b. (b || has x ys) ≡ true → 0 < cond b 1 0 + count x ys) (λ _ _. omega arith) (λ _ h. let t = has_count x ys h in omega arith) h0
 
 pub hasnt_count : (x : ℕ) (xs : List ℕ) → has x xs ≡ false → count x xs ≡ 0
 hasnt_count x [] h = refl
-hasnt_count x (y ∷ ys) h0 = by_test x y (λ b. (b || has x ys) ≡ false → cond b 1 0 + count x ys ≡ 0) (λ _ h. absurd cc) (λ _ h. hasnt_count x ys h) h0
+hasnt_count x (y ∷ ys) h0 = by_test x y (λ b. (b || has x ys) ≡ false → cond b 1 0 + count x ys ≡ 0) (λ _ h. absurd cc) (λ _ h. let t = hasnt_count x ys h in omega arith) h0
 
 pub count_without_same : (x : ℕ) (xs : List ℕ) → count x (without x xs) ≡ 0
 count_without_same x [] = refl
 count_without_same x (y ∷ ys) = let h = count_without_same x ys in
-    by_test x y (λ b. count x (cond b (without x ys) (y ∷ without x ys)) ≡ 0) (λ _. h) (λ ne. let z = ne_eqb x y ne in ap (λ (b : Bool). cond b 1 0 + count x (without x ys)) z ∙ h)
+    by_test x y (λ b. count x (cond b (without x ys) (y ∷ without x ys)) ≡ 0) (λ _. h)
+        (λ ne. let z : cond (x == y) 1 0 ≡ 0 = let F : Bool → ℕ = λ b. cond b 1 0 in ap F (ne_eqb x y ne) in omega arith)
 
 pub count_without_other : (x l : ℕ) (xs : List ℕ) → x ≢ l → count x (without l xs) ≡ count x xs
 count_without_other x l [] ne = refl
 count_without_other x l (y ∷ ys) ne = let h = count_without_other x l ys ne in
     by_test l y (λ b. count x (cond b (without l ys) (y ∷ without l ys)) ≡ count x (y ∷ ys))
-        (λ e. let z = ne_eqb x y (λ q. ne (q ∙ sym e)) in h ∙ sym (ap (λ (b : Bool). cond b 1 0 + count x ys) z)) (λ _. ap (λ (n : ℕ). cond (x == y) 1 0 + n) h)
+        (λ e. let z : cond (x == y) 1 0 ≡ 0 = let F : Bool → ℕ = λ b. cond b 1 0 in ap F (ne_eqb x y (λ q. ne (q ∙ sym e))) in omega arith) (λ _. omega arith)
 
 pub hasnt_without : (l : ℕ) (xs : List ℕ) → has l (without l xs) ≡ false
 hasnt_without l xs = by_bool (has l (without l xs)) (λ h. absurd ((has_without l l xs h).0 refl)) (λ h. h)
+
+pub has_skip : (x l : ℕ) (xs : List ℕ) → x ≢ l → has x (l ∷ xs) ≡ has x xs
+has_skip x l xs ne = ap (λ (b : Bool). b || has x xs) (ne_eqb x l ne)
+
+pub has_without_other : (x l : ℕ) (xs : List ℕ) → x ≢ l → has x (without l xs) ≡ has x xs
+has_without_other x l xs ne = by_bool (has x xs) (λ h. has_other x l xs ne h ∙ sym h)
+    (λ h. by_bool (has x (without l xs)) (λ t. absurd (not_both (has x xs) (has_without x l xs t).1 h)) (λ t. t ∙ sym h))
+
+pub closed : (b c a : Bool) → a ≡ false → (b && a) ≡ (c && a)
+closed true true a e = refl
+closed true false a e = e
+closed false true a e = sym e
+closed false false a e = refl
