@@ -204,3 +204,25 @@ closed true true a e = refl
 closed true false a e = e
 closed false true a e = sym e
 closed false false a e = refl
+
+pub shut : (b a c : Bool) → b ≡ false → (b && a) ≡ (b && c)
+shut true a c e = absurd cc
+shut false a c e = refl
+
+pub both : (b a : Bool) → (b && a) ≡ true → (b ≡ true) × (a ≡ true)
+both true a e = (refl, e)
+both false a e = absurd cc
+
+pub either_of : (b a : Bool) → (b || a) ≡ true → (b ≡ true) ⊎ (a ≡ true)
+either_of true a e = inl refl
+either_of false a e = inr e
+
+pub put_at : {A : Type 0} (f : ℕ → A) (i : ℕ) (a : A) (x : ℕ) → x ≡ i → put f i a x ≡ a
+put_at f i a x e = ap (λ (b : Bool). cond b a (f x)) (eq-eqb x i e)
+
+pub put_off : {A : Type 0} (f : ℕ → A) (i : ℕ) (a : A) (x : ℕ) → x ≢ i → put f i a x ≡ f x
+put_off f i a x ne = ap (λ (b : Bool). cond b a (f x)) (ne_eqb x i ne)
+
+pub no_bit : (b : Bool) → b ≡ false → cond {A = ℕ} b 1 0 ≡ 0
+no_bit true e = absurd cc
+no_bit false e = refl

@@ -1,3 +1,4 @@
 pub mod Facts
 pub mod Rings
 pub mod Locks
+pub mod Stores

@@ -1,5 +1,5 @@
 //! Laws, as functions that do nothing.
-ghost use Rattle.tk_core.specs.Laws.{NoRings, LocksKeep, LookKeeps};
+ghost use Rattle.tk_core.specs.Laws.{NoRings, LocksKeep, LookKeeps, StoresKeep};
 
 use crate::Frame;
 
@@ -14,6 +14,13 @@ pub fn no_ring(frame: Frame)
 pub fn locks_keep_the_rule(frame: Frame)
     ensures locks { LocksKeep frame }
     ensures look { LookKeeps frame }
+{
+    let _ = frame;
+}
+
+/// Stores that are taken out and put back, whole or broken, keep the rule.
+pub fn stores_keep_the_rule(frame: Frame)
+    ensures { StoresKeep frame }
 {
     let _ = frame;
 }

@@ -6,5 +6,5 @@ mod law;
 mod moves;
 
 pub use frame::Frame;
-pub use law::{locks_keep_the_rule, no_ring};
+pub use law::{locks_keep_the_rule, no_ring, stores_keep_the_rule};
 pub use moves::{Move, MoveList};
