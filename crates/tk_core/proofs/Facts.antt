@@ -226,3 +226,7 @@ put_off f i a x ne = ap (λ (b : Bool). cond b a (f x)) (ne_eqb x i ne)
 pub no_bit : (b : Bool) → b ≡ false → cond {A = ℕ} b 1 0 ≡ 0
 no_bit true e = absurd cc
 no_bit false e = refl
+
+pub false_unless : (b : Bool) → (b ≡ true → ⊥) → b ≡ false
+false_unless true f = absurd (f refl)
+false_unless false f = refl

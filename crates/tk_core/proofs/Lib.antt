@@ -2,3 +2,5 @@ pub mod Facts
 pub mod Rings
 pub mod Locks
 pub mod Stores
+pub mod Calls
+pub mod Commits

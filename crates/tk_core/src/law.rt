@@ -1,5 +1,5 @@
 //! Laws, as functions that do nothing.
-ghost use Rattle.tk_core.specs.Laws.{NoRings, LocksKeep, LookKeeps, StoresKeep};
+ghost use Rattle.tk_core.specs.Laws.{NoRings, LocksKeep, LookKeeps, StoresKeep, CommitKeeps};
 
 use crate::Frame;
 
@@ -21,6 +21,13 @@ pub fn locks_keep_the_rule(frame: Frame)
 /// Stores that are taken out and put back, whole or broken, keep the rule.
 pub fn stores_keep_the_rule(frame: Frame)
     ensures { StoresKeep frame }
+{
+    let _ = frame;
+}
+
+/// A call that is committed keeps the rule, whatever others hold.
+pub fn commits_keep_the_rule(frame: Frame)
+    ensures { CommitKeeps frame }
 {
     let _ = frame;
 }
