@@ -230,3 +230,14 @@ no_bit false e = refl
 pub false_unless : (b : Bool) → (b ≡ true → ⊥) → b ≡ false
 false_unless true f = absurd (f refl)
 false_unless false f = refl
+
+pub count_append : (x : ℕ) (xs ys : List ℕ) → count x (xs ++ ys) ≡ count x xs + count x ys
+count_append x [] ys = omega arith
+count_append x (z ∷ zs) ys = let h = count_append x zs ys in omega arith
+
+pub has_append : (x : ℕ) (xs ys : List ℕ) → has x (xs ++ ys) ≡ true → (has x xs ≡ true) ⊎ (has x ys ≡ true)
+has_append x [] ys h = inr h
+has_append x (z ∷ zs) ys h0 = by_test x z (λ b. (b || has x (zs ++ ys)) ≡ true → ((b || has x zs) ≡ true) ⊎ (has x ys ≡ true)) (λ _ _. inl refl) (λ _ h. has_append x zs ys h) h0
+
+pub none_held : (l : ℕ) (xs : List ℕ) → xs ≡ [] → has l xs ≡ true → ⊥
+none_held l xs e h = not_both (has l xs) h (ap (has l) e)

@@ -4,3 +4,4 @@ pub mod Locks
 pub mod Stores
 pub mod Calls
 pub mod Commits
+pub mod Halves

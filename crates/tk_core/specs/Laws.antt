@@ -1,14 +1,15 @@
 -- Each kind of move keeps the rule, and no state that meets the rule has a ring.
-use Rattle.std.specs.Prelude.{◌≡◌, ◌<◌, ℕ, Bool, true, false, List}
+use Rattle.std.specs.Prelude.{◌≡◌, ◌<◌, ◌^◌, ℕ, Bool, true, false, List, [], length, cond}
 use Rattle.tk_model.specs.declared.record.Group.{Group}
 use Rattle.tk_model.specs.declared.record.Pair.{Pair}
 use Rattle.tk_model.specs.declared.record.Entry.{Entry}
 use Rattle.tk_core.specs.declared.frame.Frame.{Frame}
-use Rattle.tk_core.specs.Caller.{Caller}
-use Rattle.tk_core.specs.Needs.{MayTake, MayMiss, MayGiveStripe, MayGiveStore, MayLook, MayTakeOut, MayPutBack, MayCommit}
+use Rattle.tk_core.specs.Caller.{Caller, weight}
+use Rattle.tk_core.specs.Lists.{times, count, once_below}
+use Rattle.tk_core.specs.Needs.{MayTake, MayMiss, MayGiveStripe, MayGiveStore, MayLook, MayTakeOut, MayPutBack, MayCommit, MaySplit, MayJoin}
 use Rattle.tk_core.specs.Covers.{store_lock}
 use Rattle.tk_core.specs.Rings.{HasNoRing}
-use Rattle.tk_core.specs.States.{State, IsSound, IsCaller, after_take_stripe, after_take_store, after_miss, after_give_stripe, after_give_store, after_look, after_out, after_back, after_commit}
+use Rattle.tk_core.specs.States.{State, IsSound, IsCaller, after_take_stripe, after_take_store, after_miss, after_give_stripe, after_give_store, after_look, after_out, after_back, after_commit, after_split, after_join}
 
 abbrev pub NoRings : Frame → Type 0
 NoRings f = (s : State) → IsSound f s → HasNoRing s.callers
@@ -30,3 +31,18 @@ pub record StoresKeep (f : Frame) : Type 0 where
 
 abbrev pub CommitKeeps : Frame → Type 0
 CommitKeeps f = (s : State) (id : ℕ) (v : Caller) (e : Entry) → IsSound f s → IsCaller s id v → MayCommit f (λ m. s.law m ≡ true) s.first e v → IsSound f (after_commit id v e s)
+
+pub record HalvesKeep (f : Frame) : Type 0 where
+  pub split : (s : State) (id : ℕ) (v : Caller) → IsSound f s → IsCaller s id v → MaySplit v → IsSound f (after_split id v s)
+  pub join : (s : State) (id other : ℕ) (v u : Caller) → IsSound f s → IsCaller s id v → IsCaller s other u → MayJoin id other v u → IsSound f (after_join id other v u s)
+
+-- no lock is held, the caller's own calls are those of the whole history, and it names each broken store once and no other
+pub record HasAll (s : State) (v : Caller) : Type 0 where
+  pub free : (l : ℕ) → s.owner l ≡ 0
+  pub home : (i : ℕ) → s.away i ≡ false
+  pub numbers : (k : ℕ) → times k v.mine ≡ once_below k (length s.log)
+  pub broke : (i : ℕ) → count i v.broke ≡ cond (s.spoilt i) 1 0
+
+-- who has the whole weight, and no lock, has all
+abbrev pub WholeHasAll : Frame → Type 0
+WholeHasAll f = (s : State) (id : ℕ) (v : Caller) → IsSound f s → IsCaller s id v → weight v ≡ 2 ^ 62 → v.held ≡ [] → HasAll s v

@@ -1,5 +1,5 @@
 //! Laws, as functions that do nothing.
-ghost use Rattle.tk_core.specs.Laws.{NoRings, LocksKeep, LookKeeps, StoresKeep, CommitKeeps};
+ghost use Rattle.tk_core.specs.Laws.{NoRings, LocksKeep, LookKeeps, StoresKeep, CommitKeeps, HalvesKeep, WholeHasAll};
 
 use crate::Frame;
 
@@ -28,6 +28,14 @@ pub fn stores_keep_the_rule(frame: Frame)
 /// A call that is committed keeps the rule, whatever others hold.
 pub fn commits_keep_the_rule(frame: Frame)
     ensures { CommitKeeps frame }
+{
+    let _ = frame;
+}
+
+/// Splits and joins keep the rule, and a caller to whom all others were joined has everything.
+pub fn halves_keep_the_rule(frame: Frame)
+    ensures halves { HalvesKeep frame }
+    ensures whole { WholeHasAll frame }
 {
     let _ = frame;
 }

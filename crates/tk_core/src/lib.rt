@@ -6,5 +6,6 @@ mod law;
 mod moves;
 
 pub use frame::Frame;
-pub use law::{commits_keep_the_rule, locks_keep_the_rule, no_ring, stores_keep_the_rule};
+pub use law::{
+    commits_keep_the_rule, halves_keep_the_rule, locks_keep_the_rule, no_ring, stores_keep_the_rule};
 pub use moves::{Move, MoveList};
