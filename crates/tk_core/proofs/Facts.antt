@@ -241,3 +241,6 @@ has_append x (z ∷ zs) ys h0 = by_test x z (λ b. (b || has x (zs ++ ys)) ≡ t
 
 pub none_held : (l : ℕ) (xs : List ℕ) → xs ≡ [] → has l xs ≡ true → ⊥
 none_held l xs e h = not_both (has l xs) h (ap (has l) e)
+
+pub nothing_below : (k : ℕ) → 0 ≡ once_below k 0
+nothing_below k = let e : ltb k 0 ≡ false = grind (arith, nat_tests) in sym (no_bit (ltb k 0) e)

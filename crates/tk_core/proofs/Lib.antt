@@ -5,3 +5,4 @@ pub mod Stores
 pub mod Calls
 pub mod Commits
 pub mod Halves
+pub mod Runs

@@ -1,13 +1,18 @@
 -- Each kind of move keeps the rule, and no state that meets the rule has a ring.
-use Rattle.std.specs.Prelude.{◌≡◌, ◌<◌, ◌^◌, ℕ, Bool, true, false, List, [], length, cond}
+use Rattle.std.specs.Prelude.{◌≡◌, ◌<◌, ◌^◌, ℕ, Bool, true, false, List, [], length, filter, cond}
 use Rattle.tk_model.specs.declared.record.Group.{Group}
 use Rattle.tk_model.specs.declared.record.Pair.{Pair}
 use Rattle.tk_model.specs.declared.record.Entry.{Entry}
 use Rattle.tk_core.specs.declared.frame.Frame.{Frame}
 use Rattle.tk_core.specs.Caller.{Caller, weight}
-use Rattle.tk_core.specs.Lists.{times, count, once_below}
+use Rattle.tk_core.specs.Lists.{has, times, count, once_below}
 use Rattle.tk_core.specs.Needs.{MayTake, MayMiss, MayGiveStripe, MayGiveStore, MayLook, MayTakeOut, MayPutBack, MayCommit, MaySplit, MayJoin}
-use Rattle.tk_core.specs.Covers.{store_lock}
+use Rattle.tk_core.specs.Covers.{IsFrame, Reads, Writes, CoversReads, CoversWrites, store_lock}
+use Rattle.tk_core.specs.Steps.{Steps, Runs, start, MayStart}
+use Rattle.tk_core.specs.declared.moves.Move.{Move}
+use Rattle.tk_model.specs.Records.{find, Rising}
+use Rattle.tk_model.specs.Entries.{is_legal, after_entry, changes_of, is_in_shard}
+use Rattle.tk_core.specs.Rule.{shard}
 use Rattle.tk_core.specs.Rings.{HasNoRing}
 use Rattle.tk_core.specs.States.{State, IsSound, IsCaller, after_take_stripe, after_take_store, after_miss, after_give_stripe, after_give_store, after_look, after_out, after_back, after_commit, after_split, after_join}
 
@@ -46,3 +51,20 @@ pub record HasAll (s : State) (v : Caller) : Type 0 where
 -- who has the whole weight, and no lock, has all
 abbrev pub WholeHasAll : Frame → Type 0
 WholeHasAll f = (s : State) (id : ℕ) (v : Caller) → IsSound f s → IsCaller s id v → weight v ≡ 2 ^ 62 → v.held ≡ [] → HasAll s v
+
+-- the rule holds at the start and after each list of moves that are allowed in turn
+pub record AllReached (f : Frame) : Type 0 where
+  pub first : (law : List Pair → Bool) (m : List Pair) (stands : ℕ → List Group → ℕ → Bool) → IsFrame f → MayStart f law m stands → IsSound f (start law m stands)
+  pub step : (x : Move) (s t : State) → IsSound f s → Steps f x s t → IsSound f t
+  pub run : (xs : List Move) (s t : State) → IsSound f s → Runs f xs s t → IsSound f t
+
+-- a call is the same on records that agree where its locks cover them, and leaves alone what they don't cover for writing
+pub record CoversEnough (f : Frame) : Type 0 where
+  pub legal : (held : List ℕ) (e : Entry) (m n : List Pair) → IsFrame f → Rising f.order m → Rising f.order n → ((k : List ℕ) → Reads f held k → find k m ≡ find k n) → CoversReads f held e
+      → is_legal f.order m e ≡ is_legal f.order n e
+  pub changes : (held : List ℕ) (e : Entry) (m n : List Pair) → IsFrame f → Rising f.order m → Rising f.order n → ((k : List ℕ) → Reads f held k → find k m ≡ find k n) → CoversReads f held e
+      → changes_of f.order m e ≡ changes_of f.order n e
+  pub keys : (held : List ℕ) (e : Entry) (m : List Pair) → IsFrame f → Rising f.order m → CoversWrites f held (changes_of f.order m e)
+      → (k : List ℕ) → (Writes f held k → ⊥) → find k (after_entry f.order e m) ≡ find k m
+  pub stores : (held : List ℕ) (e : Entry) (m : List Pair) → CoversWrites f held (changes_of f.order m e)
+      → (i : ℕ) → i < f.stores → has (store_lock f i) held ≡ false → filter (is_in_shard (shard f i)) (changes_of f.order m e) ≡ []

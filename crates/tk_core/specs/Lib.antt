@@ -6,4 +6,5 @@ pub mod Moves
 pub mod Needs
 pub mod Rings
 pub mod States
+pub mod Steps
 pub mod Laws

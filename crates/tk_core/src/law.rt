@@ -1,5 +1,5 @@
 //! Laws, as functions that do nothing.
-ghost use Rattle.tk_core.specs.Laws.{NoRings, LocksKeep, LookKeeps, StoresKeep, CommitKeeps, HalvesKeep, WholeHasAll};
+ghost use Rattle.tk_core.specs.Laws.{NoRings, LocksKeep, LookKeeps, StoresKeep, CommitKeeps, HalvesKeep, WholeHasAll, AllReached, CoversEnough};
 
 use crate::Frame;
 
@@ -36,6 +36,20 @@ pub fn commits_keep_the_rule(frame: Frame)
 pub fn halves_keep_the_rule(frame: Frame)
     ensures halves { HalvesKeep frame }
     ensures whole { WholeHasAll frame }
+{
+    let _ = frame;
+}
+
+/// The rule holds at the start, and after every list of moves that are allowed in turn.
+pub fn all_reached_meet_the_rule(frame: Frame)
+    ensures { AllReached frame }
+{
+    let _ = frame;
+}
+
+/// The locks that a call needs cover all that it looks at and all that it changes.
+pub fn covers_are_enough(frame: Frame)
+    ensures { CoversEnough frame }
 {
     let _ = frame;
 }
