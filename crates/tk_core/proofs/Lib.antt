@@ -6,3 +6,4 @@ pub mod Calls
 pub mod Commits
 pub mod Halves
 pub mod Runs
+pub mod Knows

@@ -4,15 +4,15 @@ use Rattle.tk_model.specs.declared.record.Group.{Group}
 use Rattle.tk_model.specs.declared.record.Pair.{Pair}
 use Rattle.tk_model.specs.declared.record.Entry.{Entry}
 use Rattle.tk_core.specs.declared.frame.Frame.{Frame}
-use Rattle.tk_core.specs.Caller.{Caller, weight}
+use Rattle.tk_core.specs.Caller.{Caller, weight, knows_broken}
 use Rattle.tk_core.specs.Lists.{has, times, count, once_below}
 use Rattle.tk_core.specs.Needs.{MayTake, MayMiss, MayGiveStripe, MayGiveStore, MayLook, MayTakeOut, MayPutBack, MayCommit, MaySplit, MayJoin}
-use Rattle.tk_core.specs.Covers.{IsFrame, Reads, Writes, CoversReads, CoversWrites, store_lock}
+use Rattle.tk_core.specs.Covers.{IsFrame, HoldsStores, Reads, Writes, CoversReads, CoversWrites, store_lock}
 use Rattle.tk_core.specs.Steps.{Steps, Runs, start, MayStart}
 use Rattle.tk_core.specs.declared.moves.Move.{Move}
 use Rattle.tk_model.specs.Records.{find, Rising}
 use Rattle.tk_model.specs.Entries.{is_legal, after_entry, changes_of, is_in_shard}
-use Rattle.tk_core.specs.Rule.{shard}
+use Rattle.tk_core.specs.Rule.{map_after, groups_of, known, owed, shard}
 use Rattle.tk_core.specs.Rings.{HasNoRing}
 use Rattle.tk_core.specs.States.{State, IsSound, IsCaller, after_take_stripe, after_take_store, after_miss, after_give_stripe, after_give_store, after_look, after_out, after_back, after_commit, after_split, after_join}
 
@@ -68,3 +68,17 @@ pub record CoversEnough (f : Frame) : Type 0 where
       → (k : List ℕ) → (Writes f held k → ⊥) → find k (after_entry f.order e m) ≡ find k m
   pub stores : (held : List ℕ) (e : Entry) (m : List Pair) → CoversWrites f held (changes_of f.order m e)
       → (i : ℕ) → i < f.stores → has (store_lock f i) held ≡ false → filter (is_in_shard (shard f i)) (changes_of f.order m e) ≡ []
+
+-- what a caller of a state that meets the rule knows is so now
+pub record CallerKnows (f : Frame) (s : State) (id : ℕ) (v : Caller) : Type 0 where
+  -- the records that its locks cover, the groups of the stores whose locks it holds, and which of these are broken
+  pub records : (k : List ℕ) → Reads f v.held k → known f s.first v k ≡ find k (map_after f s.first s.log)
+  pub groups : (i : ℕ) → i < f.stores → has (store_lock f i) v.held ≡ true → owed f s.first v i ≡ groups_of f s.first s.log i
+  pub broken : (i : ℕ) → has (store_lock f i) v.held ≡ true → knows_broken v i ≡ s.spoilt i
+  -- with the locks of all stores, all records
+  pub all : HoldsStores f v.held → map_after f s.first v.base ≡ map_after f s.first s.log
+  -- nobody else holds a lock of its own
+  pub alone : (other : ℕ) (u : Caller) (l : ℕ) → IsCaller s other u → has l v.held ≡ true → has l u.held ≡ true → other ≡ id
+
+abbrev pub CallersKnow : Frame → Type 0
+CallersKnow f = (s : State) (id : ℕ) (v : Caller) → IsSound f s → IsCaller s id v → CallerKnows f s id v

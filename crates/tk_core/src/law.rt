@@ -1,5 +1,5 @@
 //! Laws, as functions that do nothing.
-ghost use Rattle.tk_core.specs.Laws.{NoRings, LocksKeep, LookKeeps, StoresKeep, CommitKeeps, HalvesKeep, WholeHasAll, AllReached, CoversEnough};
+ghost use Rattle.tk_core.specs.Laws.{NoRings, LocksKeep, LookKeeps, StoresKeep, CommitKeeps, HalvesKeep, WholeHasAll, AllReached, CoversEnough, CallersKnow};
 
 use crate::Frame;
 
@@ -50,6 +50,13 @@ pub fn all_reached_meet_the_rule(frame: Frame)
 /// The locks that a call needs cover all that it looks at and all that it changes.
 pub fn covers_are_enough(frame: Frame)
     ensures { CoversEnough frame }
+{
+    let _ = frame;
+}
+
+/// What a caller learnt under its locks is so as long as it holds them, whatever others do.
+pub fn callers_know(frame: Frame)
+    ensures { CallersKnow frame }
 {
     let _ = frame;
 }
