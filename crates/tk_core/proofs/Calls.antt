@@ -1,19 +1,18 @@
 -- A call is legal, and changes the same, on records that agree where it looks; and it changes only what the locks cover that it needs.
-use Rattle.std.proofs.Common.{◌≡◌, ◌≢◌, ◌==◌, ◌&&◌, ◌⊎◌, inl, inr, ℕ, zero, suc, ◌+◌, ◌/◌, ◌%◌, ◌^◌, ◌<◌, ◌≤◌, Bool, true, false, not, cond, List, [], ◌∷◌, ◌++◌, length, filter, refl, sym, ap, ◌∙◌, subst, ⊎_elim, arith, Option, Some, None, if◌then◌else◌}
+use Rattle.std.proofs.Common.{◌≡◌, ◌&&◌, inr, ℕ, ◌+◌, ◌/◌, ◌%◌, ◌^◌, ◌<◌, Bool, true, false, not, cond, List, [], ◌∷◌, ◌++◌, length, filter, refl, sym, ap, ◌∙◌, subst, arith, if◌then◌else◌}
 use Rattle.std.specs.List.{list_all}
 use Rattle.std.proofs.Math.Nat.{mod-lt}
 use Rattle.std.proofs.lemmas.List.{append-nil}
-use Rattle.tk_model.specs.Hashes.{mix_of, shard_of}
+use Rattle.tk_model.specs.Hashes.{mix_of}
 use Rattle.tk_model.specs.Orders.{same_bytes}
 use Rattle.tk_model.specs.Records.{find, after_one, after, Rising}
-use Rattle.tk_model.specs.Entries.{touched, all_touched, touches, tells, fits, same_value, all_were, is_keep, is_legal, legal, after_entry, replay_entries, written_keys, net_change, net_changes, changes_of, is_in_shard, holds_key, group_of, parts}
+use Rattle.tk_model.specs.Entries.{touched, all_touched, fits, same_value, all_were, is_keep, is_legal, legal, after_entry, replay_entries, written_keys, net_change, net_changes, changes_of, is_in_shard, holds_key, group_of}
 use Rattle.tk_model.proofs.KeyOrders.{same_told}
-use Rattle.tk_model.proofs.RecordLaws.{touched_rising, all_touched_rising, entry_rising, entries_rising, find_put_same, find_put_other, find_without_same, find_without_other, same_records}
-use Rattle.tk_model.proofs.NetChanges.{touched_other, changes_reach}
+use Rattle.tk_model.proofs.RecordLaws.{touched_rising, entry_rising, find_put_same, find_put_other, find_without_same, find_without_other, same_records}
+use Rattle.tk_model.proofs.NetChanges.{touched_other}
 use Rattle.tk_model.proofs.Shards.{parts_more}
 use Rattle.tk_model.specs.declared.record.Order.{Order}
 use Rattle.tk_model.specs.declared.record.Pair.{Pair}
-use Rattle.tk_model.specs.declared.record.Group.{Group}
 use Rattle.tk_model.specs.declared.record.Change.{Change}
 use Rattle.tk_model.specs.declared.record.Change.TheVariants as changes
 use Rattle.tk_model.specs.declared.record.Action.{Action}
@@ -119,9 +118,10 @@ module _ (f : Frame) (held : List ℕ) (frame : IsFrame f) (m n : List Pair) (rm
   whole_alike e all = let same : m ≡ n = same_records f.order m n rm rn (λ k. agree k (reads_all f held frame all k)) in (ap (λ r. is_legal f.order r e) same, ap (λ r. changes_of f.order r e) same)
 
   pub call_alike : (e : Entry) → CoversReads f held e → Alike f.order e m n
-  call_alike (entries.Proc ts) c = let g = reads_agree f held m n ts agree c in
-      (ap (λ b. b && list_all fits ts) (were_alike f.order ts m n rm rn g),
-      net_alike (written_keys ts) m n (all_touched f.order ts m) (all_touched f.order ts n) (agree_written m n ts g) (λ k e. ends_alike f.order k ts m n rm rn e))
+  call_alike (entries.Proc ts) c = let g = reads_agree f held m n ts agree c in (
+    ap (λ b. b && list_all fits ts) (were_alike f.order ts m n rm rn g),
+    net_alike (written_keys ts) m n (all_touched f.order ts m) (all_touched f.order ts n) (agree_written m n ts g) (λ k e. ends_alike f.order k ts m n rm rn e),
+  )
   call_alike (entries.Next w b found a) c = whole_alike (entries.Next w b found a) (searches_stores f held (is_keep a) c)
   call_alike (entries.Each ts) c = whole_alike (entries.Each ts) (stores_of_all f held c)
   call_alike (entries.Count q) c = whole_alike (entries.Count q) c

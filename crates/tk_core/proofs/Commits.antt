@@ -1,20 +1,18 @@
 -- A call that is committed keeps the rule: it changes only what its locks cover, and so nothing that another caller knows.
-use Rattle.std.proofs.Common.{◌≡◌, ◌≢◌, ◌==◌, ◌&&◌, ◌||◌, ◌⊎◌, inl, inr, ℕ, zero, suc, ◌+◌, ◌-◌, ◌^◌, not, ◌<◌, ◌≤◌, Bool, true, false, cond, List, [], ◌∷◌, ◌++◌, length, length-append, filter, set, refl, sym, ap, ◌∙◌, subst, ⊎_elim, arith, Option, Some, None, eq-eqb, ne_eqb}
-use mathlib.Core.Logic.{dite}
-use native.Mathlib.Decide.{ℕ_discrete}
-use mathlib.Core.Option.{some, some-injective}
+use Rattle.std.proofs.Common.{◌≡◌, ◌≢◌, inl, inr, ℕ, ◌+◌, ◌<◌, Bool, true, false, List, [], ◌∷◌, ◌++◌, length, length-append, filter, set, refl, sym, ap, ◌∙◌, subst, ⊎_elim, arith}
+use mathlib.Core.Option.{some}
 use lib.ListN.{get_elem?}
 use Rattle.tk_model.specs.declared.record.Pair.{Pair}
 use Rattle.tk_model.specs.declared.record.Group.{Group}
 use Rattle.tk_model.specs.declared.record.Entry.{Entry}
 use Rattle.tk_model.specs.declared.record.Change.{Change}
-use Rattle.tk_model.specs.Records.{find, after, Rising}
-use Rattle.tk_model.specs.Entries.{is_legal, after_entry, changes_of, is_in_shard}
+use Rattle.tk_model.specs.Records.{find, Rising}
+use Rattle.tk_model.specs.Entries.{is_legal, changes_of, is_in_shard}
 use Rattle.tk_model.proofs.RecordLaws.{entries_rising}
 use Rattle.tk_model.proofs.NetChanges.{changes_reach}
 use Rattle.tk_core.specs.declared.frame.Frame.{Frame}
-use Rattle.tk_core.specs.Lists.{has, without, count, AllBelow, total, times, once_below, put}
-use Rattle.tk_core.specs.Caller.{Caller, weight, knows_broken}
+use Rattle.tk_core.specs.Lists.{has, once_below}
+use Rattle.tk_core.specs.Caller.{Caller}
 use Rattle.tk_core.specs.Covers.{Reads, Writes, CoversWrites, stripe_lock, store_of, store_lock}
 use Rattle.tk_core.specs.Rule.{map_after, shard, is_hard, Still, IsLawful, Knows, Sound, groups_of, hard_groups}
 use Rattle.tk_core.specs.Moves.{committed}
@@ -22,7 +20,7 @@ use Rattle.tk_core.specs.Needs.{Concerns, MayCommit}
 use Rattle.tk_core.proofs.Locks.{its, moved}
 use Rattle.tk_core.proofs.Calls.{Alike, call_alike, key_stays, store_stays, replay_snoc, legal_snoc, along_snoc, groups_stay, synced_snoc}
 use Rattle.tk_core.proofs.Stores.{other_lacks}
-use Rattle.tk_core.proofs.Facts.{at_last, placed_longer, prefix_longer, once_more, no_bit, shut, both, either_of, put_at, put_off, inside, set_here, set_else, put_case, by_test, by_bool, not_both, closed, has_cons, has_head, has_tail, has_skip, has_without, has_other, has_without_other, hasnt_without, has_count, hasnt_count, count_without_same, count_without_other, total_set, total_at, prefix_self, seats_stay}
+use Rattle.tk_core.proofs.Facts.{at_last, placed_longer, prefix_longer, once_more, both, by_bool, not_both, prefix_self}
 
 module _ (f : Frame) (law : List Pair → Type 0) (m : List Pair) (log : List Entry) (owner : ℕ → ℕ) (spoilt away : ℕ → Bool) (stands : ℕ → List Group → ℕ → Type 0) (callers : List Caller)
     (sound : Sound f law m log owner spoilt away stands callers) (id : ℕ) (v : Caller) (at : get_elem? callers id ≡ some v) where
@@ -79,45 +77,45 @@ module _ (f : Frame) (law : List Pair → Type 0) (m : List Pair) (log : List En
         let quiet : filter (is_in_shard (shard f i)) (changes_of f.order (map_after f m v.base) e) ≡ [] = empty (filter (is_in_shard (shard f i)) (changes_of f.order (map_after f m v.base) e)) (λ n. aloof i low here (inl n)) in
         let soft : is_hard e ≡ false = by_bool (is_hard e) (λ h. absurd (aloof i low here (inr h))) (λ h. h) in
         subst (λ (es : List Entry). stands i (groups_of f m (log ++ e ∷ []) i) (length (groups_of f m es i))) (sym (synced_snoc log e soft))
-            (subst (λ (gs : List Group). stands i gs (hard_groups f m log i))
-                (sym (groups_stay f m log e i (sym (ap (λ (cs : List Change). filter (is_in_shard (shard f i)) cs) same.1) ∙ quiet)))
-                (sound.stores i low good here))
+        (subst (λ (gs : List Group). stands i gs (hard_groups f m log i))
+        (sym (groups_stay f m log e i (sym (ap (λ (cs : List Change). filter (is_in_shard (shard f i)) cs) same.1) ∙ quiet)))
+        (sound.stores i low good here))
 
     pub commits : Sound f law m (log ++ e ∷ []) owner spoilt away stands (set callers id (committed log e v))
     commits = let k = own in let n : ℕ = length log in
         let len : length (log ++ e ∷ []) ≡ n + 1 = length-append log (e ∷ []) in
         let room : 0 < v.allowance = may.allowance in
         moved f law m log owner spoilt away stands callers sound id v at (log ++ e ∷ []) owner spoilt away stands (committed log e v) lawful
-            (its f law m log owner spoilt away stands callers sound id v at)
-            record {
-              spent = λ d. absurd (not_both v.live may.live d);
-              owns = k.owns;
-              seen = prefix_self (log ++ e ∷ []);
-              base = prefix_self (log ++ e ∷ []);
-              placed = (at_last log e n refl, placed_longer log (e ∷ []) v.mine k.placed);
-              weighs = λ _ _. omega arith;
-              heavy = λ _ _. omega arith;
-              still = record { records = λ _ _. refl; groups = λ _ _ _. refl };
-              out = k.out;
-              wants = k.wants;
-              met = k.met;
-              found = k.found;
-              breaking = k.breaking;
-            }
-            (λ j d ne kn. record {
-              spent = kn.spent;
-              owns = kn.owns;
-              seen = prefix_longer d.seen log (e ∷ []) kn.seen;
-              base = prefix_longer d.base log (e ∷ []) kn.base;
-              placed = placed_longer log (e ∷ []) d.mine kn.placed;
-              weighs = kn.weighs;
-              heavy = kn.heavy;
-              still = still_other j d ne kn;
-              out = kn.out;
-              wants = kn.wants;
-              met = kn.met;
-              found = kn.found;
-              breaking = kn.breaking;
-            })
-            (omega arith) (λ q. let o = once_more q n in let o2 : once_below q (length (log ++ e ∷ [])) ≡ once_below q (n + 1) = ap (once_below q) len in omega arith) (omega arith) (λ _. refl)
-            sound.home at_home
+        (its f law m log owner spoilt away stands callers sound id v at)
+        record {
+          spent = λ d. absurd (not_both v.live may.live d);
+          owns = k.owns;
+          seen = prefix_self (log ++ e ∷ []);
+          base = prefix_self (log ++ e ∷ []);
+          placed = (at_last log e n refl, placed_longer log (e ∷ []) v.mine k.placed);
+          weighs = λ _ _. omega arith;
+          heavy = λ _ _. omega arith;
+          still = record { records = λ _ _. refl; groups = λ _ _ _. refl };
+          out = k.out;
+          wants = k.wants;
+          met = k.met;
+          found = k.found;
+          breaking = k.breaking;
+        }
+        (λ j d ne kn. record {
+          spent = kn.spent;
+          owns = kn.owns;
+          seen = prefix_longer d.seen log (e ∷ []) kn.seen;
+          base = prefix_longer d.base log (e ∷ []) kn.base;
+          placed = placed_longer log (e ∷ []) d.mine kn.placed;
+          weighs = kn.weighs;
+          heavy = kn.heavy;
+          still = still_other j d ne kn;
+          out = kn.out;
+          wants = kn.wants;
+          met = kn.met;
+          found = kn.found;
+          breaking = kn.breaking;
+        })
+        (omega arith) (λ q. let o = once_more q n in let o2 : once_below q (length (log ++ e ∷ [])) ≡ once_below q (n + 1) = ap (once_below q) len in omega arith) (omega arith) (λ _. refl)
+        sound.home at_home

@@ -70,14 +70,14 @@ has_without x l [] h = absurd cc
 has_without x l (y ∷ ys) h0 = by_test l y (λ b. has x (cond b (without l ys) (y ∷ without l ys)) ≡ true → (x ≢ l) × (has x (y ∷ ys) ≡ true))
     (λ e h. let t = has_without x l ys h in (t.0, has_tail x y ys t.1))
     (λ ne h. ⊎_elim (λ (e : x ≡ y). ((λ (z : x ≡ l). ne (sym z ∙ e)), subst (λ (z : ℕ). has x (z ∷ ys) ≡ true) e (has_head x ys)))
-        (λ (t : (x ≢ y) × (has x (without l ys) ≡ true)). let u = has_without x l ys t.1 in (u.0, has_tail x y ys u.1)) (has_cons x y (without l ys) h)) h0
+    (λ (t : (x ≢ y) × (has x (without l ys) ≡ true)). let u = has_without x l ys t.1 in (u.0, has_tail x y ys u.1)) (has_cons x y (without l ys) h)) h0
 
 pub has_other : (x l : ℕ) (xs : List ℕ) → x ≢ l → has x xs ≡ true → has x (without l xs) ≡ true
 has_other x l [] ne h = absurd cc
 has_other x l (y ∷ ys) ne h = by_test l y (λ b. has x (cond b (without l ys) (y ∷ without l ys)) ≡ true)
     (λ e. ⊎_elim (λ (z : x ≡ y). absurd (ne (z ∙ sym e))) (λ (t : (x ≢ y) × (has x ys ≡ true)). has_other x l ys ne t.1) (has_cons x y ys h))
     (λ _. ⊎_elim (λ (z : x ≡ y). subst (λ (q : ℕ). has x (q ∷ without l ys) ≡ true) z (has_head x (without l ys)))
-        (λ (t : (x ≢ y) × (has x ys ≡ true)). has_tail x y (without l ys) (has_other x l ys ne t.1)) (has_cons x y ys h))
+    (λ (t : (x ≢ y) × (has x ys ≡ true)). has_tail x y (without l ys) (has_other x l ys ne t.1)) (has_cons x y ys h))
 
 module _ {A : Type 0} where
   pub total_set : (f : A → ℕ) (l : List A) (i : ℕ) (a b : A) → get_elem? l i ≡ some a → total f (set l i b) + f a ≡ total f l + f b
@@ -135,6 +135,7 @@ once_more k n = dite (ℕ_discrete k n)
   where
     ap₂ : (k n : ℕ) (a b c : Bool) → a ≡ true → b ≡ true → c ≡ false → cond a 1 0 ≡ cond b 1 0 + cond c 1 0
     ap₂ k n a b c x y z = rw (x, y, z) refl
+
     other : (a b c : Bool) → b ≡ false → a ≡ c → cond a 1 0 ≡ cond b 1 0 + cond c 1 0
     other a b true y z = rw (y, z) refl
     other a b false y z = rw (y, z) refl
@@ -181,13 +182,13 @@ pub count_without_same : (x : ℕ) (xs : List ℕ) → count x (without x xs) �
 count_without_same x [] = refl
 count_without_same x (y ∷ ys) = let h = count_without_same x ys in
     by_test x y (λ b. count x (cond b (without x ys) (y ∷ without x ys)) ≡ 0) (λ _. h)
-        (λ ne. let z : cond (x == y) 1 0 ≡ 0 = let F : Bool → ℕ = λ b. cond b 1 0 in ap F (ne_eqb x y ne) in omega arith)
+    (λ ne. let z : cond (x == y) 1 0 ≡ 0 = let F : Bool → ℕ = λ b. cond b 1 0 in ap F (ne_eqb x y ne) in omega arith)
 
 pub count_without_other : (x l : ℕ) (xs : List ℕ) → x ≢ l → count x (without l xs) ≡ count x xs
 count_without_other x l [] ne = refl
 count_without_other x l (y ∷ ys) ne = let h = count_without_other x l ys ne in
     by_test l y (λ b. count x (cond b (without l ys) (y ∷ without l ys)) ≡ count x (y ∷ ys))
-        (λ e. let z : cond (x == y) 1 0 ≡ 0 = let F : Bool → ℕ = λ b. cond b 1 0 in ap F (ne_eqb x y (λ q. ne (q ∙ sym e))) in omega arith) (λ _. omega arith)
+    (λ e. let z : cond (x == y) 1 0 ≡ 0 = let F : Bool → ℕ = λ b. cond b 1 0 in ap F (ne_eqb x y (λ q. ne (q ∙ sym e))) in omega arith) (λ _. omega arith)
 
 pub hasnt_without : (l : ℕ) (xs : List ℕ) → has l (without l xs) ≡ false
 hasnt_without l xs = by_bool (has l (without l xs)) (λ h. absurd ((has_without l l xs h).0 refl)) (λ h. h)

@@ -1,22 +1,19 @@
 -- What a caller knows.
-use Rattle.std.proofs.Common.{◌≡◌, ◌≢◌, ◌==◌, ◌&&◌, ◌||◌, ◌⊎◌, inl, inr, ℕ, zero, suc, ◌+◌, ◌-◌, ◌^◌, not, ◌<◌, ◌≤◌, Bool, true, false, cond, List, [], ◌∷◌, ◌++◌, length, set, refl, sym, ap, ◌∙◌, subst, ⊎_elim, arith, Option, Some, None, eq-eqb, ne_eqb}
-use mathlib.Core.Logic.{dite}
-use native.Mathlib.Decide.{ℕ_discrete}
-use mathlib.Core.Option.{some, some-injective}
+use Rattle.std.proofs.Common.{◌≡◌, ℕ, Bool, true, List, sym, ◌∙◌, arith}
+use mathlib.Core.Option.{some}
 use lib.ListN.{get_elem?}
 use Rattle.tk_model.specs.declared.record.Pair.{Pair}
 use Rattle.tk_model.specs.declared.record.Group.{Group}
 use Rattle.tk_model.specs.declared.record.Entry.{Entry}
 use Rattle.tk_model.proofs.RecordLaws.{entries_rising, same_records}
 use Rattle.tk_core.specs.declared.frame.Frame.{Frame}
-use Rattle.tk_core.specs.Lists.{has, without, count, AllBelow, total, times, once_below, put}
-use Rattle.tk_core.specs.Caller.{Caller, weight, knows_broken}
-use Rattle.tk_core.specs.Covers.{HoldsStores, Reads, stripe_lock, store_of, store_lock}
-use Rattle.tk_core.specs.Rule.{map_after, Still, IsLawful, Knows, Sound, groups_of, hard_groups}
-use Rattle.tk_core.proofs.Locks.{its, moved}
+use Rattle.tk_core.specs.Lists.{has}
+use Rattle.tk_core.specs.Caller.{Caller, knows_broken}
+use Rattle.tk_core.specs.Covers.{HoldsStores, store_lock}
+use Rattle.tk_core.specs.Rule.{map_after, Knows, Sound}
 use Rattle.tk_core.proofs.Stores.{told}
 use Rattle.tk_core.proofs.Calls.{reads_all}
-use Rattle.tk_core.proofs.Facts.{no_bit, shut, both, either_of, put_at, put_off, inside, set_here, set_else, put_case, by_test, by_bool, not_both, closed, has_cons, has_head, has_tail, has_skip, has_without, has_other, has_without_other, hasnt_without, has_count, hasnt_count, count_without_same, count_without_other, total_set, total_at, prefix_self, seats_stay}
+use Rattle.tk_core.proofs.Facts.{by_bool, not_both}
 
 module _ (f : Frame) (law : List Pair → Type 0) (m : List Pair) (log : List Entry) (owner : ℕ → ℕ) (spoilt away : ℕ → Bool) (stands : ℕ → List Group → ℕ → Type 0) (callers : List Caller)
     (sound : Sound f law m log owner spoilt away stands callers) (id : ℕ) (v : Caller) (at : get_elem? callers id ≡ some v) where

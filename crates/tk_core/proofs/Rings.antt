@@ -1,5 +1,5 @@
 -- Along a ring of waiting callers the wanted locks would rise without end.
-use Rattle.std.proofs.Common.{◌≡◌, ℕ, ◌<◌, Bool, true, false, List, [], ◌∷◌, Option, Some, None, refl, sym, ap, ◌∙◌, subst, arith}
+use Rattle.std.proofs.Common.{◌≡◌, ℕ, ◌<◌, Bool, List, [], ◌∷◌, Some, sym, ap, ◌∙◌, arith}
 use mathlib.Core.Option.{some, some-injective}
 use lib.ListN.{get_elem?}
 use Rattle.tk_model.specs.declared.record.Pair.{Pair}
@@ -9,7 +9,7 @@ use Rattle.tk_core.specs.declared.frame.Frame.{Frame}
 use Rattle.tk_core.specs.Lists.{has}
 use Rattle.tk_core.specs.Caller.{Caller}
 use Rattle.tk_core.specs.Rule.{Sound}
-use Rattle.tk_core.specs.Rings.{WaitsFor, Chain, Ring, HasNoRing}
+use Rattle.tk_core.specs.Rings.{WaitsFor, Chain, HasNoRing}
 
 module _ (f : Frame) (law : List Pair → Type 0) (m : List Pair) (log : List Entry) (owner : ℕ → ℕ) (spoilt away : ℕ → Bool) (stands : ℕ → List Group → ℕ → Type 0) (callers : List Caller)
     (sound : Sound f law m log owner spoilt away stands callers) where

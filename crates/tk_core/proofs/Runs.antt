@@ -1,5 +1,5 @@
 -- The start meets the rule, and so does each state that moves lead to.
-use Rattle.std.proofs.Common.{◌≡◌, ℕ, zero, suc, ◌+◌, ◌-◌, ◌<◌, ◌≤◌, ◌^◌, Bool, true, false, List, [], ◌∷◌, refl, sym, ap, ◌∙◌, subst, arith, None}
+use Rattle.std.proofs.Common.{◌≡◌, ℕ, zero, suc, ◌-◌, ◌<◌, Bool, true, false, List, [], ◌∷◌, refl, sym, ap, ◌∙◌, subst, arith}
 use mathlib.Core.Logic.{dite}
 use native.Mathlib.Decide.{dec_le}
 use mathlib.Core.Option.{some, some-injective, some-ne-none}
@@ -10,10 +10,10 @@ use Rattle.tk_core.specs.declared.frame.Frame.{Frame}
 use Rattle.tk_core.specs.declared.moves.Move.{Move}
 use Rattle.tk_core.specs.declared.moves.Move.TheVariants as moves
 use Rattle.tk_core.specs.Caller.{Caller}
-use Rattle.tk_core.specs.Lists.{has, put}
-use Rattle.tk_core.specs.Covers.{IsFrame, Reads, stripe_lock, store_of, store_lock}
+use Rattle.tk_core.specs.Lists.{put}
+use Rattle.tk_core.specs.Covers.{IsFrame, store_lock}
 use Rattle.tk_core.specs.Needs.{MayTake, MayPutBack}
-use Rattle.tk_core.specs.Rule.{Still, Knows, Sound, groups_of, hard_groups}
+use Rattle.tk_core.specs.Rule.{Knows, groups_of, hard_groups}
 use Rattle.tk_core.specs.States.{State, IsSound, IsCaller, after_take_stripe, after_take_store, after_give_stripe, after_give_store, after_back}
 use Rattle.tk_core.specs.Steps.{Takes, Gives, Steps, Runs, first_caller, start, MayStart}
 use Rattle.tk_core.proofs.Facts.{nothing_below, put_at, put_off, prefix_self}
@@ -26,14 +26,14 @@ pub backs : (f : Frame) (s : State) (id : ℕ) (v : Caller) (i : ℕ) (is_broken
     → MayPutBack f s.first s.log (λ gs n. now gs n ≡ true) i is_broken v → IsSound f (after_back id v i is_broken now s)
 backs f s id v i is_broken now sound at may =
     puts_back _ _ _ _ _ _ _ _ _ sound id v at (λ q gs n. put s.stands i now q gs n ≡ true) i is_broken
-        record {
-          live = may.live;
-          store = may.store;
-          out = may.out;
-          stays = may.stays;
-          stands = λ e. ap (λ (F : List Group → ℕ → Bool). F (groups_of f s.first s.log i) (hard_groups f s.first s.log i)) (put_at s.stands i now i refl) ∙ may.stands e;
-        }
-        (λ q ne gs n h. ap (λ (F : List Group → ℕ → Bool). F gs n) (put_off s.stands i now q ne) ∙ h)
+    record {
+      live = may.live;
+      store = may.store;
+      out = may.out;
+      stays = may.stays;
+      stands = λ e. ap (λ (F : List Group → ℕ → Bool). F (groups_of f s.first s.log i) (hard_groups f s.first s.log i)) (put_at s.stands i now i refl) ∙ may.stands e;
+    }
+    (λ q ne gs n h. ap (λ (F : List Group → ℕ → Bool). F gs n) (put_off s.stands i now q ne) ∙ h)
 
 module _ (f : Frame) (s t : State) (sound : IsSound f s) where
   to : (u : State) → t ≡ u → IsSound f u → IsSound f t
@@ -42,13 +42,13 @@ module _ (f : Frame) (s t : State) (sound : IsSound f s) where
   take : (id l : ℕ) → Takes f s t id l → IsSound f t
   take id l x = dite (dec_le f.stripes l)
       (λ high. let i : ℕ = l - f.stripes in let e : l ≡ store_lock f i = omega arith in
-          to (after_take_store f id x.caller i s) (x.store i e) (takes_store _ _ _ _ _ _ _ _ _ sound id x.caller x.is_caller i (subst (λ (z : ℕ). MayTake f s.owner z x.caller) e x.needs)))
+      to (after_take_store f id x.caller i s) (x.store i e) (takes_store _ _ _ _ _ _ _ _ _ sound id x.caller x.is_caller i (subst (λ (z : ℕ). MayTake f s.owner z x.caller) e x.needs)))
       (λ low. let less : l < f.stripes = omega arith in to (after_take_stripe id x.caller l s) (x.stripe less) (takes_stripe _ _ _ _ _ _ _ _ _ sound id x.caller x.is_caller l less x.needs))
 
   give : (id l : ℕ) → Gives f s t id l → IsSound f t
   give id l x = dite (dec_le f.stripes l)
       (λ high. let i : ℕ = l - f.stripes in let e : l ≡ store_lock f i = omega arith in let g = x.store i e in
-          to (after_give_store f id x.caller i s) g.1 (gives_store _ _ _ _ _ _ _ _ _ sound id x.caller x.is_caller i g.0))
+      to (after_give_store f id x.caller i s) g.1 (gives_store _ _ _ _ _ _ _ _ _ sound id x.caller x.is_caller i g.0))
       (λ low. let less : l < f.stripes = omega arith in let g = x.stripe less in to (after_give_stripe id x.caller l s) g.1 (gives_stripe _ _ _ _ _ _ _ _ _ sound id x.caller x.is_caller l g.0))
 
   pub step : (x : Move) → Steps f x s t → IsSound f t

@@ -1,5 +1,5 @@
 -- What becomes of a caller in each kind of move.
-use Rattle.std.specs.Prelude.{◌&&◌, ◌-◌, ◌+◌, ◌/◌, ltb, not, ℕ, Bool, true, false, List, [], ◌∷◌, ◌++◌, length, Option, Some, None, cond}
+use Rattle.std.specs.Prelude.{◌&&◌, ◌-◌, ◌+◌, ◌/◌, ltb, not, ℕ, Bool, true, false, List, [], ◌∷◌, ◌++◌, length, Some, None, cond}
 use Rattle.tk_model.specs.declared.record.Entry.{Entry}
 use Rattle.tk_core.specs.declared.frame.Frame.{Frame}
 use Rattle.tk_core.specs.Lists.{has, without}

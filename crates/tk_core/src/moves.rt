@@ -4,17 +4,34 @@ use tk_model::{Entry, ListOf};
 #[derive(Clone, Debug, Drop)]
 pub enum Move {
     /// A free lock is taken; it is greater than each that the caller holds.
-    Take { caller: u32, lock: u32 },
+    Take {
+        caller: u32,
+        lock: u32,
+    },
     /// A lock that is held is tried, and waited for from then on.
-    Miss { caller: u32, lock: u32 },
+    Miss {
+        caller: u32,
+        lock: u32,
+    },
     /// A call is made, and gets the next number of the history.
-    Commit { caller: u32, entry: Entry },
+    Commit {
+        caller: u32,
+        entry: Entry,
+    },
     /// A lock is given back; its store is at home.
-    Give { caller: u32, lock: u32 },
+    Give {
+        caller: u32,
+        lock: u32,
+    },
     /// The caller sees the whole history.
-    Look { caller: u32 },
+    Look {
+        caller: u32,
+    },
     /// A store is taken out under its lock.
-    Out { caller: u32, store: u32 },
+    Out {
+        caller: u32,
+        store: u32,
+    },
     /// A store is put back, whole or as broken.
     Back {
         caller: u32,
@@ -22,9 +39,14 @@ pub enum Move {
         broken: bool,
     },
     /// Half of the allowance goes to a new caller.
-    Split { caller: u32 },
+    Split {
+        caller: u32,
+    },
     /// The other caller's allowance and calls come to this one.
-    Join { caller: u32, other: u32 },
+    Join {
+        caller: u32,
+        other: u32,
+    },
 }
 
 pub type MoveList = ListOf<Move>;

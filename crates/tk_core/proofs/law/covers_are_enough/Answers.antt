@@ -1,4 +1,4 @@
-use Rattle.std.proofs.Common.{◌≡◌, sym, ap, ◌∙◌}
+use Rattle.std.proofs.Common.{sym, ap, ◌∙◌}
 use Rattle.tk_model.specs.Records.{find}
 use Rattle.tk_model.specs.Entries.{changes_of}
 use Rattle.tk_model.proofs.NetChanges.{changes_reach}

@@ -1,4 +1,3 @@
-use Rattle.std.proofs.Common.{◌≡◌, true}
 use Rattle.tk_core.proofs.Rings as rings
 use Rattle.tk_core.proofs.law.no_ring.Goals as goal
 
