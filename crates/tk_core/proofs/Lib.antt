@@ -7,3 +7,4 @@ pub mod Commits
 pub mod Halves
 pub mod Runs
 pub mod Knows
+pub mod Programs

@@ -8,3 +8,4 @@ pub mod Rings
 pub mod States
 pub mod Steps
 pub mod Laws
+pub mod Program

@@ -3,6 +3,7 @@
 
 mod frame;
 mod law;
+mod machine;
 mod moves;
 
 pub use frame::Frame;
@@ -10,4 +11,5 @@ pub use law::{
     all_reached_meet_the_rule, callers_know, commits_keep_the_rule, covers_are_enough,
     halves_keep_the_rule, locks_keep_the_rule, no_ring, stores_keep_the_rule,
 };
+pub use machine::Core;
 pub use moves::{Move, MoveList};
