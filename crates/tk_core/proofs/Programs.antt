@@ -6,8 +6,8 @@ use Rattle.tk_core.specs.declared.machine.Row.{Row}
 use Rattle.tk_core.specs.Caller.{Caller}
 use Rattle.tk_core.specs.Covers.{IsFrame}
 use Rattle.tk_core.specs.Rule.{Sound}
-use Rattle.tk_core.specs.Steps.{first_caller, MayStart}
-use Rattle.tk_core.specs.Program.{CoreState, caller_of, IsCore, first_state}
+use Rattle.tk_core.specs.Steps.{first_caller}
+use Rattle.tk_core.specs.Program.{caller_of, IsCore, first_state}
 use Rattle.tk_core.proofs.Runs.{starts}
 
 pub all_same : {A : Type 0} (n i : ℕ) (a : A) → get_or (replicate n a) i a ≡ a
@@ -19,8 +19,8 @@ pub first_sound : (f : Frame) → IsFrame f → IsCore (first_state f)
 first_sound f frame =
     let whole = starts f (λ m. true) [] (λ i gs n. true) frame (record { rising = tt; lawful = refl; empty = λ i low. refl }) in
     subst (λ (owner : ℕ → ℕ). Sound f (λ m. true ≡ true) [] [] owner (λ i. get_or (replicate f.stores false) i false) (λ i. get_or (replicate f.stores false) i false) (λ i gs n. true ≡ true) (first_caller ∷ []))
-        (λ t l. sym (all_same (f.stripes + f.stores) l 0) t)
-        (subst (λ (flags : ℕ → Bool). Sound f (λ m. true ≡ true) [] [] (λ l. 0) flags flags (λ i gs n. true ≡ true) (first_caller ∷ [])) (λ t i. sym (all_same f.stores i false) t) whole)
+    (λ t l. sym (all_same (f.stripes + f.stores) l 0) t)
+    (subst (λ (flags : ℕ → Bool). Sound f (λ m. true ≡ true) [] [] (λ l. 0) flags flags (λ i gs n. true ≡ true) (first_caller ∷ [])) (λ t i. sym (all_same f.stores i false) t) whole)
 
 pub built : (f : Frame) → IsFrame f → (log : List Entry) (owners : List ℕ) (spoilt away : List Bool) (rows : List Row) (first : Row) → log ≡ [] → owners ≡ replicate (f.stripes + f.stores) 0 → spoilt ≡ replicate f.stores false → away ≡ replicate f.stores false
     → rows ≡ first ∷ [] → caller_of [] first ≡ first_caller → IsCore (record { frame = f; log = log; owners = owners; spoilt = spoilt; away = away; callers = map (caller_of log) rows })

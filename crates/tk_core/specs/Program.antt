@@ -1,5 +1,5 @@
 -- The core as the program keeps it: plain data, in which a caller's histories are lengths.
-use Rattle.std.specs.Prelude.{ℕ, ◌+◌, Bool, true, false, List, [], ◌∷◌, Option, map, take, replicate, get_or}
+use Rattle.std.specs.Prelude.{ℕ, ◌+◌, Bool, true, false, List, [], ◌∷◌, take, replicate, get_or}
 use Rattle.tk_model.specs.declared.record.Entry.{Entry}
 use Rattle.tk_model.specs.declared.record.Entry.TheVariants as entries
 use Rattle.tk_core.specs.declared.frame.Frame.{Frame}
@@ -20,15 +20,15 @@ pub record CoreState : Type 0 where
 -- each map meets the law, and each store stands for what it is given: the core has no files
 abbrev pub state_of : CoreState → State
 state_of c = record {
-    law = λ m. true;
-    first = [];
-    log = c.log;
-    owner = λ l. get_or c.owners l 0;
-    spoilt = λ i. get_or c.spoilt i false;
-    away = λ i. get_or c.away i false;
-    stands = λ i gs n. true;
-    callers = c.callers;
-  }
+  law = λ m. true;
+  first = [];
+  log = c.log;
+  owner = λ l. get_or c.owners l 0;
+  spoilt = λ i. get_or c.spoilt i false;
+  away = λ i. get_or c.away i false;
+  stands = λ i gs n. true;
+  callers = c.callers;
+}
 
 abbrev pub numbered : List Entry → List ℕ → List (ℕ × Entry)
 numbered log [] = []
@@ -44,10 +44,10 @@ IsCore c = IsSound c.frame (state_of c)
 -- one caller, no call, each lock free and each store whole and at home
 abbrev pub first_state : Frame → CoreState
 first_state f = record {
-    frame = f;
-    log = [];
-    owners = replicate (f.stripes + f.stores) 0;
-    spoilt = replicate f.stores false;
-    away = replicate f.stores false;
-    callers = first_caller ∷ [];
-  }
+  frame = f;
+  log = [];
+  owners = replicate (f.stripes + f.stores) 0;
+  spoilt = replicate f.stores false;
+  away = replicate f.stores false;
+  callers = first_caller ∷ [];
+}

@@ -13,3 +13,6 @@ pub use law::{
 };
 pub use machine::Core;
 pub use moves::{Move, MoveList};
+
+#[cfg(test)]
+mod tests;

@@ -1,8 +1,7 @@
-use Rattle.std.proofs.Common.{rules, ◌≡◌, ◌+◌, ℕ, Bool, true, false, None, List, [], ◌∷◌, replicate, map}
+use Rattle.std.proofs.Common.{rules, ◌≡◌, ◌+◌, true, false, None, [], ◌∷◌, replicate}
 use Rattle.tk_core.specs.declared.frame.Frame.{Frame}
 use Rattle.tk_core.specs.declared.machine.Row.{Row}
-use Rattle.tk_core.specs.Caller.{Caller}
-use Rattle.tk_core.specs.Program.{CoreState, caller_of, first_state}
+use Rattle.tk_core.specs.Program.{caller_of}
 use Rattle.tk_core.specs.Steps.{first_caller}
 use Rattle.tk_core.proofs.Programs.{built, filled}
 use Rattle.tk_core.proofs.machine.Core.new.Goals as goal
@@ -17,4 +16,4 @@ invariant_of-result c =
     let rows : c.push.new.self.items ≡ first ∷ [] = search rules in
     let caller : caller_of [] first ≡ first_caller = search rules in
     built f (record { stores = (c.requires.some_store, c.requires.few_stores); stripes = (c.requires.some_stripes, c.requires.few_stripes) })
-        c.new-7.result.items c.resize.new.self.items c.resize-2.new.self.items c.resize-3.new.self.items c.push.new.self.items first c.new-7.ensures.items owners spoilt away rows caller
+    c.new-7.result.items c.resize.new.self.items c.resize-2.new.self.items c.resize-3.new.self.items c.push.new.self.items first c.new-7.ensures.items owners spoilt away rows caller
