@@ -8,7 +8,7 @@ use Rattle.tk_core.specs.Caller.{Caller, weight, knows_broken}
 use Rattle.tk_core.specs.Lists.{has, times, count, once_below}
 use Rattle.tk_core.specs.Needs.{MayTake, MayMiss, MayGiveStripe, MayGiveStore, MayLook, MayTakeOut, MayPutBack, MayCommit, MaySplit, MayJoin}
 use Rattle.tk_core.specs.Covers.{IsFrame, HoldsStores, Reads, Writes, CoversReads, CoversWrites, store_lock}
-use Rattle.tk_core.specs.Steps.{Steps, Runs, start, MayStart}
+use Rattle.tk_core.specs.Steps.{Steps, Runs, RunsFar, start, MayStart}
 use Rattle.tk_core.specs.declared.moves.Move.{Move}
 use Rattle.tk_model.specs.Records.{find, Rising}
 use Rattle.tk_model.specs.Entries.{is_legal, after_entry, changes_of, is_in_shard}
@@ -57,6 +57,7 @@ pub record AllReached (f : Frame) : Type 0 where
   pub first : (law : List Pair → Bool) (m : List Pair) (stands : ℕ → List Group → ℕ → Bool) → IsFrame f → MayStart f law m stands → IsSound f (start law m stands)
   pub step : (x : Move) (s t : State) → IsSound f s → Steps f x s t → IsSound f t
   pub run : (xs : List Move) (s t : State) → IsSound f s → Runs f xs s t → IsSound f t
+  pub far : (xs : List Move) (s t : State) (n : ℕ) → IsSound f s → RunsFar f xs s t n → IsSound f t × HasNoRing t.callers
 
 -- a call is the same on records that agree where its locks cover them, and leaves alone what they don't cover for writing
 pub record CoversEnough (f : Frame) : Type 0 where

@@ -1,5 +1,5 @@
 -- Which moves the core allows in a state, and what a list of moves does.
-use Rattle.std.specs.Prelude.{◌≡◌, ◌^◌, ◌<◌, ℕ, Bool, true, false, List, [], ◌∷◌, None}
+use Rattle.std.specs.Prelude.{◌≡◌, ◌^◌, ◌<◌, ℕ, Bool, true, false, List, [], ◌∷◌, None, ◌≤◌, length, take, drop}
 use Rattle.tk_model.specs.Records.{Rising}
 use Rattle.tk_model.specs.declared.record.Pair.{Pair}
 use Rattle.tk_model.specs.declared.record.Group.{Group}
@@ -87,6 +87,12 @@ Steps f (moves.Join id other) s t = Joins f s t id other
 abbrev pub Runs : Frame → List Move → State → State → Type 0
 Runs f [] s t = t ≡ s
 Runs f (x ∷ xs) s t = (u : State) × Steps f x s u × Runs f xs u t
+
+-- a list of moves is done as far as it is allowed: so many of them, and the next is not allowed
+pub record RunsFar (f : Frame) (xs : List Move) (s t : State) (n : ℕ) : Type 0 where
+  pub within : n ≤ length xs
+  pub done : Runs f (take n xs) s t
+  pub stops : (x : Move) (rest : List Move) → drop n xs ≡ x ∷ rest → (u : State) → Steps f x t u → ⊥
 
 abbrev pub first_caller : Caller
 first_caller = record { live = true; allowance = 2 ^ 62; held = []; want = None; out = []; seen = []; base = []; mine = []; breaking = []; broke = []; met = [] }
