@@ -107,20 +107,20 @@ module _ (f : Frame) (law : List Pair → Type 0) (m : List Pair) (log : List En
   -- the rule
   pub record Sound (callers : List Caller) : Type 0 where
     pub frame : IsFrame f
-    -- (a) the history is lawful
+    -- the history is lawful
     pub history : IsLawful f law m log
-    -- (b) a lock with an owner is held by that caller; with `owns`, by no other
+    -- a lock with an owner is held by that caller; with `owns`, by no other
     pub holder : (l j : ℕ) → owner l ≡ suc j → (v : Caller) × (get_elem? callers j ≡ some v) × (has l v.held ≡ true)
-    -- (c) each number of the history stands once among the callers' own calls
+    -- each number of the history stands once among the callers' own calls
     pub once : (k : ℕ) → total (λ v. times k v.mine) callers ≡ once_below k (length log)
     pub made : total (λ v. length v.mine) callers ≡ length log
-    -- (d) the weights are 2^62 in all
+    -- the weights are 2^62 in all
     pub weights : total weight callers ≡ 2 ^ 62
-    -- (e), (h) and what (b), (c), (d), (f) and (i) say of each caller
+    -- what the rule says of each caller
     pub knows : (j : ℕ) (v : Caller) → get_elem? callers j ≡ some v → Knows j v
-    -- (f) a store whose lock is free is at home
+    -- a store whose lock is free is at home
     pub home : (i : ℕ) → owner (store_lock f i) ≡ 0 → away i ≡ false
-    -- (g) a store at home that isn't broken stands for its groups
+    -- a store at home that isn't broken stands for its groups
     pub stores : (i : ℕ) → i < f.stores → spoilt i ≡ false → away i ≡ false → stands i (groups_of f m log i) (hard_groups f m log i)
-    -- (i) a broken store stands once among those that the callers broke, and no other stands there
+    -- a broken store stands once among those that the callers broke, and no other stands there
     pub tally : (i : ℕ) → total (λ v. count i v.broke + count i v.breaking) callers ≡ cond (spoilt i) 1 0
