@@ -1,0 +1,11 @@
+pub mod Caller
+pub mod Lists
+pub mod Covers
+pub mod Rule
+pub mod Moves
+pub mod Needs
+pub mod Rings
+pub mod States
+pub mod Steps
+pub mod Laws
+pub mod Program

@@ -1,0 +1,18 @@
+//! The pure core of one history under rising locks.
+#![tactic(auto)]
+
+mod frame;
+mod law;
+mod machine;
+mod moves;
+
+pub use frame::Frame;
+pub use law::{
+    all_reached_meet_the_rule, callers_know, commits_keep_the_rule, covers_are_enough,
+    halves_keep_the_rule, locks_keep_the_rule, no_ring, stores_keep_the_rule,
+};
+pub use machine::Core;
+pub use moves::{Move, MoveList};
+
+#[cfg(test)]
+mod tests;
