@@ -22,13 +22,13 @@ missed l v = record v { want = Some l }
 abbrev pub committed : List Entry → Entry → Caller → Caller
 committed log e v = record v { allowance = v.allowance - 1; seen = log ++ e ∷ []; base = log ++ e ∷ []; mine = (length log, e) ∷ v.mine }
 
--- give: it forgets what that lock alone covered
+-- give: it wants none, and forgets what that lock alone covered
 abbrev pub gave_stripe : ℕ → Caller → Caller
-gave_stripe l v = record v { held = without l v.held }
+gave_stripe l v = record v { held = without l v.held; want = None }
 
 -- a store that it broke under this lock joins those that it broke
 abbrev pub gave_store : Frame → ℕ → Caller → Caller
-gave_store f i v = record v { held = without (store_lock f i) v.held; breaking = without i v.breaking; broke = cond (has i v.breaking) (i ∷ v.broke) v.broke }
+gave_store f i v = record v { held = without (store_lock f i) v.held; want = None; breaking = without i v.breaking; broke = cond (has i v.breaking) (i ∷ v.broke) v.broke }
 
 -- look: it has seen the whole history
 abbrev pub looked : List Entry → Caller → Caller
