@@ -192,7 +192,7 @@ module _ (f : Frame) (law : List Pair → Type 0) (m : List Pair) (log : List En
         heavy = k.heavy;
         still = record { records = λ y h. k.still.records y (fewer l y h); groups = λ i low h. k.still.groups i low (has_without (store_lock f i) l v.held h).1 };
         out = λ i. k.out i ∙ ap (λ (b : Bool). b && away i) (sym (has_without_other (store_lock f i) l v.held (apart i)));
-        wants = λ z e y h. k.wants z e y (has_without y l v.held h).1;
+        wants = λ _ e. absurd (cc (e));
         met = k.met;
         found = λ i h s. k.found i (has_without (store_lock f i) l v.held h).1 s;
         breaking = λ i h. has_other (store_lock f i) l v.held (apart i) (k.breaking i h);
@@ -218,7 +218,7 @@ module _ (f : Frame) (law : List Pair → Type 0) (m : List Pair) (log : List En
         out = λ q. dite (ℕ_discrete (store_lock f q) l)
             (λ e. k.out q ∙ closed (has (store_lock f q) v.held) (has (store_lock f q) (without l v.held)) (away q) (ap away (back q e) ∙ is_home))
             (λ ne. k.out q ∙ ap (λ (b : Bool). b && away q) (sym (has_without_other (store_lock f q) l v.held ne)));
-        wants = λ z e y h. k.wants z e y (has_without y l v.held h).1;
+        wants = λ _ e. absurd (cc (e));
         met = k.met;
         found = λ q h s. let t = has_without (store_lock f q) l v.held h in
             ap (λ (b : Bool). has q v.met || b) (has_without_other q i v.breaking (forth q t.0)) ∙ k.found q t.1 s;
