@@ -1,0 +1,116 @@
+-- The rows of the program show the callers of the rule.
+use Rattle.std.proofs.Common.{◌≡◌, ℕ, zero, suc, ◌<◌, ◌≤◌, Bool, true, false, List, [], ◌∷◌, map, length, set, get_or, take, refl, sym, ap, ◌∙◌, subst, arith, Decides}
+use mathlib.Core.Option.{some, some-injective, some-ne-none}
+use lib.ListN.{get_elem?}
+use lib.Seq.{map-set}
+use Rattle.std.proofs.lemmas.List.{take_all}
+use Rattle.tk_model.specs.declared.record.Entry.{Entry}
+use Rattle.tk_core.specs.declared.machine.Row.{Row}
+use Rattle.tk_core.specs.declared.moves.Move.{Move}
+use Rattle.tk_core.specs.declared.moves.Move.TheVariants as moves
+use Rattle.tk_core.specs.declared.frame.Frame.{Frame}
+use Rattle.tk_core.specs.Moves.{looked, missed}
+use Rattle.tk_core.specs.Needs.{MayLook, MayMiss}
+use Rattle.tk_core.specs.Caller.{Caller}
+use Rattle.tk_core.specs.Program.{CoreState, AnyCaller, owner_of, IsCore, IsAnswer, caller_of, state_of}
+use Rattle.tk_core.specs.States.{State, with_caller}
+use Rattle.tk_core.specs.Steps.{Steps}
+use Rattle.tk_core.proofs.Runs.{step}
+
+module _ {A B : Type 0} (f : A → B) where
+  length_map : (xs : List A) → length (map f xs) ≡ length xs
+  length_map [] = refl
+  length_map (x ∷ xs) = ap suc (length_map xs)
+
+  pub at_map : (xs : List A) (i : ℕ) (a : A) → i < length xs → a ≡ get_or xs i a → get_elem? (map f xs) i ≡ some (f a)
+  at_map [] i a h e = absurd (omega arith)
+  at_map (x ∷ xs) zero a h e = ap some (ap f (sym e))
+  at_map (x ∷ xs) (suc i) a h e = at_map xs i a (omega arith) e
+
+  pub off_map : (xs : List A) (i : ℕ) (b : B) → length xs ≤ i → get_elem? (map f xs) i ≡ some b → ⊥
+  off_map [] i b h e = some-ne-none b (sym e)
+  off_map (x ∷ xs) zero b h e = omega arith
+  off_map (x ∷ xs) (suc i) b h e = off_map xs i b (omega arith) e
+
+  pub in_map : (xs : List A) (i : ℕ) (b : B) → get_elem? (map f xs) i ≡ some b → i < length xs
+  in_map [] i b e = absurd (some-ne-none b (sym e))
+  in_map (x ∷ xs) zero b e = omega arith
+  in_map (x ∷ xs) (suc i) b e = let h = in_map xs i b e in omega arith
+
+  pub one_map : (xs : List A) (i : ℕ) (a : A) (b : B) → f a ≡ b → map f (set xs i a) ≡ set (map f xs) i b
+  one_map xs i a b e = map-set f xs i a ∙ ap (set (map f xs) i) e
+
+-- nothing changed, and no state follows
+pub refuses : (x : Move) (c : CoreState) → ((t : State) → Steps c.frame x (state_of c) t → ⊥) → IsAnswer x c c false
+refuses x c none = record { frame = refl; done = λ e. absurd (cc e); refused = λ e. (refl, none) }
+
+pub does : (x : Move) (c d : CoreState) → d.frame ≡ c.frame → Steps c.frame x (state_of c) (state_of d) → IsAnswer x c d true
+does x c d e steps = record { frame = e; done = λ t. steps; refused = λ t. absurd (cc t) }
+
+-- a step keeps the invariant where it keeps the lengths
+pub keeps : (x : Move) (c d : CoreState) → IsCore c → d.frame ≡ c.frame → length d.owners ≡ length c.owners → length d.spoilt ≡ length c.spoilt → length d.away ≡ length c.away → Steps c.frame x (state_of c) (state_of d) → IsCore d
+keeps x c d is same o s a steps =
+    subst IsCore (λ t. record { frame = sym same t; log = d.log; owners = d.owners; spoilt = d.spoilt; away = d.away; callers = d.callers })
+    (record { sound = step c.frame (state_of c) (state_of d) is.sound x steps; owners = o ∙ is.owners; spoilt = s ∙ is.spoilt; away = a ∙ is.away })
+
+abbrev AnyRow : List Entry → List Row → ℕ → (Caller → Type 0) → Type 0
+AnyRow log rows i P = (v : Caller) × (get_elem? (map (caller_of log) rows) i ≡ some v) × P v
+
+module _ (log : List Entry) (rows : List Row) (i : ℕ) where
+  -- past the last row there is no caller
+  pub nobody : (P : Caller → Type 0) → length rows ≤ i → AnyRow log rows i P → ⊥
+  nobody P h a = off_map (caller_of log) rows i a.0 h a.1
+
+  module _ (row : Row) (h : i < length rows) (is : row ≡ get_or rows i row) where
+    pub there : get_elem? (map (caller_of log) rows) i ≡ some (caller_of log row)
+    there = at_map (caller_of log) rows i row h is
+
+    -- what is so of a caller is so of its row
+    pub of_row : (P : Caller → Type 0) → AnyRow log rows i P → P (caller_of log row)
+    of_row P a = subst P (some-injective a.0 (caller_of log row) (sym a.1 ∙ there)) a.2
+
+    pub by_row : (P : Caller → Type 0) → P (caller_of log row) → AnyRow log rows i P
+    by_row P p = (caller_of log row, there, p)
+
+    pub decides : (P : Caller → Type 0) (b : Bool) → (b ≡ true → P (caller_of log row)) → (P (caller_of log row) → b ≡ true) → Decides b (AnyRow log rows i P)
+    decides P b so only = (λ e. by_row P (so e), λ a. only (of_row P a))
+
+-- what a step that is done leaves
+pub record IsDone (x : Move) (c d : CoreState) : Type 0 where
+  pub core : IsCore d
+  pub answer : IsAnswer x c d true
+
+pub done : (x : Move) (c d : CoreState) → IsCore c → d.frame ≡ c.frame → length d.owners ≡ length c.owners → length d.spoilt ≡ length c.spoilt → length d.away ≡ length c.away → Steps c.frame x (state_of c) (state_of d) → IsDone x c d
+done x c d is same o s a steps = record { core = keeps x c d is same o s a steps; answer = does x c d same steps }
+
+-- a row that may be changed is that of a caller of whom this is so
+module _ (f : Frame) (log : List Entry) (owners : List ℕ) (spoilt away : List Bool) (rows : List Row) (i : ℕ) (row new : Row) (is : row ≡ get_or rows i row) where
+  abbrev pub core : List ℕ → List Bool → List Bool → List Row → CoreState
+  core os s a rs = record { frame = f; log = log; owners = os; spoilt = s; away = a; callers = map (caller_of log) rs }
+
+  at_row : (P : Caller → Type 0) → AnyRow log rows i P → get_elem? (map (caller_of log) rows) i ≡ some (caller_of log row)
+  at_row P a = there log rows i row (in_map (caller_of log) rows i a.0 a.1) is
+
+  need : (P : Caller → Type 0) → AnyRow log rows i P → P (caller_of log row)
+  need P a = of_row log rows i row (in_map (caller_of log) rows i a.0 a.1) is P a
+
+  -- only the row changes
+  one_state : (v : Caller) → caller_of log new ≡ v → state_of (core owners spoilt away (set rows i new)) ≡ with_caller i v (state_of (core owners spoilt away rows))
+  one_state v e = λ t. record { law = λ m. true; first = []; log = log; owner = λ l. get_or owners l 0; spoilt = λ q. get_or spoilt q false; away = λ q. get_or away q false; stands = λ q gs n. true; callers = one_map (caller_of log) rows i new v e t }
+
+  module _ (old : CoreState) (view : core owners spoilt away rows ≡ old) (ok : IsCore (core owners spoilt away rows)) where
+    one_done : (x : Move) (d : CoreState) → IsDone x (core owners spoilt away rows) d → IsDone x old d
+    one_done x d = subst (λ (s : CoreState). IsDone x s d) view
+
+    from_view : (P : CoreState → Type 0) → P old → P (core owners spoilt away rows)
+    from_view P = subst P (sym view)
+
+    pub look_done : AnyCaller old i MayLook → caller_of log new ≡ looked log (caller_of log row) → IsDone (moves.Look i) old (core owners spoilt away (set rows i new))
+    look_done b e = let a : AnyRow log rows i MayLook = from_view (λ s. AnyCaller s i MayLook) b in
+        one_done (moves.Look i) (core owners spoilt away (set rows i new)) (done (moves.Look i) (core owners spoilt away rows) (core owners spoilt away (set rows i new)) ok refl refl refl refl
+        (record { caller = caller_of log row; is_caller = at_row MayLook a; needs = need MayLook a; after = one_state (looked log (caller_of log row)) e }))
+
+    pub miss_done : (l : ℕ) → AnyCaller old i (MayMiss old.frame (owner_of old) l) → caller_of log new ≡ missed l (caller_of log row) → IsDone (moves.Miss i l) old (core owners spoilt away (set rows i new))
+    miss_done l b e = let a : AnyRow log rows i (MayMiss f (λ q. get_or owners q 0) l) = from_view (λ s. AnyCaller s i (MayMiss s.frame (owner_of s) l)) b in
+        one_done (moves.Miss i l) (core owners spoilt away (set rows i new)) (done (moves.Miss i l) (core owners spoilt away rows) (core owners spoilt away (set rows i new)) ok refl refl refl refl
+        (record { caller = caller_of log row; is_caller = at_row (MayMiss f (λ q. get_or owners q 0) l) a; needs = need (MayMiss f (λ q. get_or owners q 0) l) a; after = one_state (missed l (caller_of log row)) e }))
