@@ -1,5 +1,5 @@
 -- The rows of the program show the callers of the rule.
-use Rattle.std.proofs.Common.{◌≡◌, ℕ, zero, suc, ◌<◌, ◌≤◌, Bool, true, false, List, [], ◌∷◌, map, length, set, get_or, take, refl, sym, ap, ◌∙◌, subst, arith, Decides}
+use Rattle.std.proofs.Common.{◌≡◌, ℕ, zero, suc, ◌<◌, ◌≤◌, Bool, true, false, List, [], ◌∷◌, map, length, set, get_or, take, refl, sym, ap, ◌∙◌, subst, arith, Decides, ◌||◌, eq-eqb}
 use mathlib.Core.Option.{some, some-injective, some-ne-none}
 use lib.ListN.{get_elem?}
 use lib.Seq.{map-set}
@@ -15,6 +15,8 @@ use Rattle.tk_core.specs.Caller.{Caller}
 use Rattle.tk_core.specs.Program.{CoreState, AnyCaller, owner_of, IsCore, IsAnswer, caller_of, state_of}
 use Rattle.tk_core.specs.States.{State, with_caller}
 use Rattle.tk_core.specs.Steps.{Steps}
+use Rattle.tk_core.specs.Lists.{has, AllBelow}
+use Rattle.tk_core.proofs.Facts.{by_test}
 use Rattle.tk_core.proofs.Runs.{step}
 
 module _ {A B : Type 0} (f : A → B) where
@@ -39,6 +41,11 @@ module _ {A B : Type 0} (f : A → B) where
 
   pub one_map : (xs : List A) (i : ℕ) (a : A) (b : B) → f a ≡ b → map f (set xs i a) ≡ set (map f xs) i b
   one_map xs i a b e = map-set f xs i a ∙ ap (set (map f xs) i) e
+
+pub any_default : {A : Type 0} (xs : List A) (i : ℕ) (a b : A) → i < length xs → get_or xs i a ≡ get_or xs i b
+any_default [] i a b h = absurd (omega arith)
+any_default (x ∷ xs) zero a b h = refl
+any_default (x ∷ xs) (suc i) a b h = any_default xs i a b (omega arith)
 
 -- nothing changed, and no state follows
 pub refuses : (x : Move) (c : CoreState) → ((t : State) → Steps c.frame x (state_of c) t → ⊥) → IsAnswer x c c false
@@ -114,3 +121,21 @@ module _ (f : Frame) (log : List Entry) (owners : List ℕ) (spoilt away : List 
     miss_done l b e = let a : AnyRow log rows i (MayMiss f (λ q. get_or owners q 0) l) = from_view (λ s. AnyCaller s i (MayMiss s.frame (owner_of s) l)) b in
         one_done (moves.Miss i l) (core owners spoilt away (set rows i new)) (done (moves.Miss i l) (core owners spoilt away rows) (core owners spoilt away (set rows i new)) ok refl refl refl refl
         (record { caller = caller_of log row; is_caller = at_row (MayMiss f (λ q. get_or owners q 0) l) a; needs = need (MayMiss f (λ q. get_or owners q 0) l) a; after = one_state (missed l (caller_of log row)) e }))
+
+above_tail : (l x : ℕ) (xs : List ℕ) → AllBelow l (x ∷ xs) → AllBelow l xs
+above_tail l x xs h y e = h y (by_test y x (λ b. (b || has y xs) ≡ true) (λ _. refl) (λ _. e))
+
+pub above_all : (l : ℕ) (xs : List ℕ) (n : ℕ) → AllBelow l (take n xs) → length xs ≤ n → AllBelow l xs
+above_all l xs n h e = subst (AllBelow l) (take_all n xs e) h
+
+pub above_next : (l n x : ℕ) (xs : List ℕ) → n < length xs → x ≡ get_or xs n 0 → AllBelow l (take n xs) → x < l → AllBelow l (take (suc n) xs)
+above_next l n x [] h e a less = absurd (omega arith)
+above_next l zero x (y ∷ ys) h e a less = λ z t. by_test z y (λ b. (b || false) ≡ true → z < l) (λ s _. let u = e in omega arith) (λ _ f. absurd (cc f)) t
+above_next l (suc n) x (y ∷ ys) h e a less = λ z t.
+    by_test z y (λ b. (b || has z (take (suc n) ys)) ≡ true → z < l) (λ s _. a z (subst (λ b. (b || has z (take n ys)) ≡ true) (sym (eq-eqb z y s)) refl))
+    (λ _ f. above_next l n x ys (omega arith) e (above_tail l y (take n ys) a) less z f) t
+
+pub has_at : (xs : List ℕ) (n x : ℕ) → n < length xs → x ≡ get_or xs n 0 → has x xs ≡ true
+has_at [] n x h e = absurd (omega arith)
+has_at (y ∷ ys) zero x h e = by_test x y (λ b. (b || has x ys) ≡ true) (λ _. refl) (λ ne. absurd (ne e))
+has_at (y ∷ ys) (suc n) x h e = by_test x y (λ b. (b || has x ys) ≡ true) (λ _. refl) (λ _. has_at ys n x (omega arith) e)

@@ -1,8 +1,8 @@
 //! The steps of the core, one for each kind of move.
-ghost use Rattle.std.specs.Prelude.{◌≡◌, Decides};
-ghost use Rattle.tk_core.specs.Lists.{has, AllBelow};
-ghost use Rattle.tk_core.specs.Needs.{MayLook};
-ghost use Rattle.tk_core.specs.Program.{IsAnswer, AnyCaller};
+ghost use Rattle.std.specs.Prelude.{Decides};
+ghost use Rattle.tk_core.specs.Lists.{AllBelow};
+ghost use Rattle.tk_core.specs.Needs.{MayLook, MayMiss};
+ghost use Rattle.tk_core.specs.Program.{IsAnswer, AnyCaller, owner_of};
 ghost use Rattle.tk_core.specs.declared.moves.Move.TheVariants as moves;
 
 use crate::Core;
@@ -31,6 +31,39 @@ impl Core {
         row.base = seen;
         true
     }
+
+    fn may_miss(&self, caller: u32, lock: u32) -> bool
+        ensures { Decides result (AnyCaller self.now caller (MayMiss self.now.frame (owner_of self.now) lock)) }
+    {
+        let at = caller as usize;
+        if at >= self.rows.len() {
+            return false;
+        }
+        let row = &self.rows[at];
+        if !row.live {
+            return false;
+        }
+        let place = lock as usize;
+        if place >= self.owners.len() {
+            return false;
+        }
+        if self.owners[place] == 0 {
+            return false;
+        }
+        is_above(lock, &row.held)
+    }
+
+    /// The caller waits for the lock.
+    pub(crate) fn miss(&mut self, caller: u32, lock: u32) -> bool
+        ensures { IsAnswer (moves.Miss caller lock) self.old self.new result }
+    {
+        if !self.may_miss(caller, lock) {
+            return false;
+        }
+        let row = &mut self.rows[caller as usize];
+        row.want = Some(lock);
+        true
+    }
 }
 
 /// Whether the lock is greater than each of these.
@@ -45,9 +78,3 @@ fn is_above(lock: u32, held: &[u32]) -> bool
     true
 }
 
-/// Whether the number stands in the list.
-fn holds(list: &[u32], number: u32) -> bool
-    ensures { result ≡ has number list.now }
-{
-    list.contains(&number)
-}
