@@ -1,5 +1,5 @@
 -- The rows of the program show the callers of the rule.
-use Rattle.std.proofs.Common.{◌≡◌, ℕ, zero, suc, ◌<◌, ◌≤◌, Bool, true, false, List, [], ◌∷◌, map, length, set, get_or, take, refl, sym, ap, ◌∙◌, subst, arith, Decides, ◌||◌, eq-eqb}
+use Rattle.std.proofs.Common.{◌≡◌, ℕ, zero, suc, ◌<◌, ◌≤◌, Bool, true, false, List, [], ◌∷◌, map, length, set, get_or, take, refl, sym, ap, ◌∙◌, subst, arith, Decides, ◌||◌, ◌==◌, ◌++◌, eq-eqb}
 use mathlib.Core.Option.{some, some-injective, some-ne-none}
 use lib.ListN.{get_elem?}
 use lib.Seq.{map-set}
@@ -9,8 +9,8 @@ use Rattle.tk_core.specs.declared.machine.Row.{Row}
 use Rattle.tk_core.specs.declared.moves.Move.{Move}
 use Rattle.tk_core.specs.declared.moves.Move.TheVariants as moves
 use Rattle.tk_core.specs.declared.frame.Frame.{Frame}
-use Rattle.tk_core.specs.Moves.{looked, missed}
-use Rattle.tk_core.specs.Needs.{MayLook, MayMiss}
+use Rattle.tk_core.specs.Moves.{looked, missed, kept_half, new_half}
+use Rattle.tk_core.specs.Needs.{MayLook, MayMiss, MaySplit}
 use Rattle.tk_core.specs.Caller.{Caller}
 use Rattle.tk_core.specs.Program.{CoreState, AnyCaller, owner_of, IsCore, IsAnswer, caller_of, state_of}
 use Rattle.tk_core.specs.States.{State, with_caller}
@@ -20,7 +20,7 @@ use Rattle.tk_core.proofs.Facts.{by_test}
 use Rattle.tk_core.proofs.Runs.{step}
 
 module _ {A B : Type 0} (f : A → B) where
-  length_map : (xs : List A) → length (map f xs) ≡ length xs
+  pub length_map : (xs : List A) → length (map f xs) ≡ length xs
   length_map [] = refl
   length_map (x ∷ xs) = ap suc (length_map xs)
 
@@ -46,6 +46,28 @@ pub any_default : {A : Type 0} (xs : List A) (i : ℕ) (a b : A) → i < length 
 any_default [] i a b h = absurd (omega arith)
 any_default (x ∷ xs) zero a b h = refl
 any_default (x ∷ xs) (suc i) a b h = any_default xs i a b (omega arith)
+
+set_snoc : {A : Type 0} (xs : List A) (i : ℕ) (a b : A) → i < length xs → set (xs ++ a ∷ []) i b ≡ set xs i b ++ a ∷ []
+set_snoc [] i a b h = absurd (omega arith)
+set_snoc (x ∷ xs) zero a b h = refl
+set_snoc (x ∷ xs) (suc i) a b h = ap (λ ys. x ∷ ys) (set_snoc xs i a b (omega arith))
+
+map_snoc : {A B : Type 0} (f : A → B) (xs : List A) (a : A) → map f (xs ++ a ∷ []) ≡ map f xs ++ f a ∷ []
+map_snoc f [] a = refl
+map_snoc f (x ∷ xs) a = ap (λ ys. f x ∷ ys) (map_snoc f xs a)
+
+-- a row is the same once another stands behind the last
+pub same_row : {A : Type 0} (xs : List A) (i : ℕ) (a r q : A) → i < length xs → r ≡ get_or xs i r → q ≡ get_or (xs ++ a ∷ []) i q → q ≡ r
+same_row [] i a r q h e f = absurd (omega arith)
+same_row (x ∷ xs) zero a r q h e f = f ∙ sym e
+same_row (x ∷ xs) (suc i) a r q h e f = same_row xs i a r q (omega arith) e f
+
+abbrev IsNil : List ℕ → Type 0
+IsNil xs = xs ≡ []
+
+pub empty_list : (xs : List ℕ) (n : ℕ) → n ≡ length xs → Decides (n == 0) (xs ≡ [])
+empty_list [] n l = by_test n 0 (λ b. Decides b (IsNil [])) (λ _. (λ _. refl, λ _. refl)) (λ ne. absurd (ne l))
+empty_list (x ∷ xs) n l = by_test n 0 (λ b. Decides b (IsNil (x ∷ xs))) (λ z. absurd (omega (arith, l, z))) (λ _. (λ e. absurd (cc e), λ e. absurd (cc e)))
 
 -- nothing changed, and no state follows
 pub refuses : (x : Move) (c : CoreState) → ((t : State) → Steps c.frame x (state_of c) t → ⊥) → IsAnswer x c c false
@@ -121,6 +143,24 @@ module _ (f : Frame) (log : List Entry) (owners : List ℕ) (spoilt away : List 
     miss_done l b e = let a : AnyRow log rows i (MayMiss f (λ q. get_or owners q 0) l) = from_view (λ s. AnyCaller s i (MayMiss s.frame (owner_of s) l)) b in
         one_done (moves.Miss i l) (core owners spoilt away (set rows i new)) (done (moves.Miss i l) (core owners spoilt away rows) (core owners spoilt away (set rows i new)) ok refl refl refl refl
         (record { caller = caller_of log row; is_caller = at_row (MayMiss f (λ q. get_or owners q 0) l) a; needs = need (MayMiss f (λ q. get_or owners q 0) l) a; after = one_state (missed l (caller_of log row)) e }))
+
+    pub split_done : (pushed : List Row) (added : Row) → pushed ≡ rows ++ added ∷ [] → AnyCaller old i (MaySplit (length old.callers)) → caller_of log new ≡ kept_half (caller_of log row) → caller_of log added ≡ new_half (caller_of log row)
+        → IsDone (moves.Split i) old (core owners spoilt away (set pushed i new))
+    split_done pushed added snoc b kept half =
+        let v : Caller = caller_of log row in
+        let P : Caller → Type 0 = MaySplit (length (map (caller_of log) rows)) in
+        let a : AnyRow log rows i P = from_view (λ s. AnyCaller s i (MaySplit (length s.callers))) b in
+        let h : i < length rows = in_map (caller_of log) rows i a.0 a.1 in
+        let callers : map (caller_of log) (set pushed i new) ≡ set (map (caller_of log) rows) i (kept_half v) ++ new_half v ∷ [] =
+            ap (λ (rs : List Row). map (caller_of log) (set rs i new)) snoc ∙ ap (map (caller_of log)) (set_snoc rows i added new h) ∙ map_snoc (caller_of log) (set rows i new) added
+            ∙ (λ t. one_map (caller_of log) rows i new (kept_half v) kept t ++ half t ∷ []) in
+        one_done (moves.Split i) (core owners spoilt away (set pushed i new)) (done (moves.Split i) (core owners spoilt away rows) (core owners spoilt away (set pushed i new)) ok refl refl refl refl
+        (record {
+          caller = v;
+          is_caller = at_row P a;
+          needs = need P a;
+          after = λ t. record { law = λ m. true; first = []; log = log; owner = λ l. get_or owners l 0; spoilt = λ q. get_or spoilt q false; away = λ q. get_or away q false; stands = λ q gs n. true; callers = callers t };
+        }))
 
 above_tail : (l x : ℕ) (xs : List ℕ) → AllBelow l (x ∷ xs) → AllBelow l xs
 above_tail l x xs h y e = h y (by_test y x (λ b. (b || has y xs) ≡ true) (λ _. refl) (λ _. e))

@@ -1,11 +1,14 @@
 //! The steps of the core, one for each kind of move.
-ghost use Rattle.std.specs.Prelude.{Decides};
+ghost use Rattle.std.specs.Prelude.{◌≡◌, length, Decides, IfOk, IfErr};
 ghost use Rattle.tk_core.specs.Lists.{AllBelow};
-ghost use Rattle.tk_core.specs.Needs.{MayLook, MayMiss};
+ghost use Rattle.tk_core.specs.Needs.{MayLook, MayMiss, MaySplit};
 ghost use Rattle.tk_core.specs.Program.{IsAnswer, AnyCaller, owner_of};
 ghost use Rattle.tk_core.specs.declared.moves.Move.TheVariants as moves;
 
+use crate::machine::Row;
 use crate::Core;
+use std::alloc::Global;
+use tk_model::NoMemory;
 
 impl Core {
     fn may_look(&self, caller: u32) -> bool
@@ -63,6 +66,52 @@ impl Core {
         let row = &mut self.rows[caller as usize];
         row.want = Some(lock);
         true
+    }
+
+    fn may_split(&self, caller: u32) -> bool
+        ensures { Decides result (AnyCaller self.now caller (MaySplit (length self.now.callers))) }
+    {
+        let at = caller as usize;
+        if at >= self.rows.len() {
+            return false;
+        }
+        if self.rows.len() >= 1 << 32 {
+            return false;
+        }
+        let row = &self.rows[at];
+        if !row.live {
+            return false;
+        }
+        row.held.is_empty()
+    }
+
+    /// Half of the caller's allowance goes to a new caller.
+    pub(crate) fn split(&mut self, alloc: Global, caller: u32) -> Result<bool, NoMemory>
+        ensures answer { IfOk result (λ done. IsAnswer (moves.Split caller) self.old self.new done) }
+        ensures want { IfErr result (λ e. self.new ≡ self.old) }
+    {
+        if !self.may_split(caller) {
+            return Ok(false);
+        }
+        let row = &self.rows[caller as usize];
+        let whole = row.allowance;
+        let new = Row {
+            live: true,
+            allowance: whole / 2,
+            held: Vec::new(alloc),
+            want: None,
+            out: Vec::new(alloc),
+            seen: row.seen,
+            base: row.base,
+            mine: Vec::new(alloc),
+            breaking: Vec::new(alloc),
+            broke: Vec::new(alloc),
+            met: Vec::new(alloc),
+        };
+        self.rows.push(new)?;
+        let row = &mut self.rows[caller as usize];
+        row.allowance = whole - whole / 2;
+        Ok(true)
     }
 }
 
