@@ -1,5 +1,6 @@
 -- The rows of the program show the callers of the rule.
-use Rattle.std.proofs.Common.{◌≡◌, ℕ, zero, suc, ◌<◌, ◌≤◌, Bool, true, false, List, [], ◌∷◌, map, length, set, get_or, take, refl, sym, ap, ◌∙◌, subst, arith, Decides, ◌||◌, ◌==◌, ◌++◌, eq-eqb}
+use Rattle.std.proofs.Common.{◌≡◌, ℕ, zero, suc, ◌<◌, ◌≤◌, Bool, true, false, List, [], ◌∷◌, map, length, set, get_or, take, refl, sym, ap, ◌∙◌, subst, arith, Decides, ◌||◌, ◌==◌, ◌++◌, eq-eqb, ne_eqb, ◌≢◌, cond, not, length-set}
+use Rattle.std.specs.List.{list_any}
 use mathlib.Core.Option.{some, some-injective, some-ne-none}
 use lib.ListN.{get_elem?}
 use lib.Seq.{map-set}
@@ -9,13 +10,13 @@ use Rattle.tk_core.specs.declared.machine.Row.{Row}
 use Rattle.tk_core.specs.declared.moves.Move.{Move}
 use Rattle.tk_core.specs.declared.moves.Move.TheVariants as moves
 use Rattle.tk_core.specs.declared.frame.Frame.{Frame}
-use Rattle.tk_core.specs.Moves.{looked, missed, kept_half, new_half}
-use Rattle.tk_core.specs.Needs.{MayLook, MayMiss, MaySplit}
+use Rattle.tk_core.specs.Moves.{looked, missed, kept_half, new_half, took_out}
+use Rattle.tk_core.specs.Needs.{MayLook, MayMiss, MaySplit, MayTakeOut}
 use Rattle.tk_core.specs.Caller.{Caller}
 use Rattle.tk_core.specs.Program.{CoreState, AnyCaller, owner_of, IsCore, IsAnswer, caller_of, state_of}
 use Rattle.tk_core.specs.States.{State, with_caller}
 use Rattle.tk_core.specs.Steps.{Steps}
-use Rattle.tk_core.specs.Lists.{has, AllBelow}
+use Rattle.tk_core.specs.Lists.{has, AllBelow, put}
 use Rattle.tk_core.proofs.Facts.{by_test}
 use Rattle.tk_core.proofs.Runs.{step}
 
@@ -68,6 +69,30 @@ IsNil xs = xs ≡ []
 pub empty_list : (xs : List ℕ) (n : ℕ) → n ≡ length xs → Decides (n == 0) (xs ≡ [])
 empty_list [] n l = by_test n 0 (λ b. Decides b (IsNil [])) (λ _. (λ _. refl, λ _. refl)) (λ ne. absurd (ne l))
 empty_list (x ∷ xs) n l = by_test n 0 (λ b. Decides b (IsNil (x ∷ xs))) (λ z. absurd (omega (arith, l, z))) (λ _. (λ e. absurd (cc e), λ e. absurd (cc e)))
+
+pub not_true : (b : Bool) → not b ≡ true → b ≡ false
+not_true true e = absurd (cc e)
+not_true false e = refl
+
+set_hit : {A : Type 0} (xs : List A) (i : ℕ) (a d : A) → i < length xs → get_or (set xs i a) i d ≡ a
+set_hit [] i a d h = absurd (omega arith)
+set_hit (x ∷ xs) zero a d h = refl
+set_hit (x ∷ xs) (suc i) a d h = set_hit xs i a d (omega arith)
+
+set_miss : {A : Type 0} (xs : List A) (i z : ℕ) (a d : A) → z ≢ i → get_or (set xs i a) z d ≡ get_or xs z d
+set_miss [] i z a d ne = refl
+set_miss (x ∷ xs) zero zero a d ne = absurd (ne refl)
+set_miss (x ∷ xs) zero (suc z) a d ne = refl
+set_miss (x ∷ xs) (suc i) zero a d ne = refl
+set_miss (x ∷ xs) (suc i) (suc z) a d ne = set_miss xs i z a d (λ e. ne (ap suc e))
+
+put_set : {A : Type 0} (xs : List A) (i : ℕ) (a d : A) → i < length xs → (z : ℕ) → get_or (set xs i a) z d ≡ put (λ y. get_or xs y d) i a z
+put_set xs i a d h z = by_test z i (λ b. get_or (set xs i a) z d ≡ cond b a (get_or xs z d)) (λ e. subst (λ y. get_or (set xs i a) y d ≡ a) (sym e) (set_hit xs i a d h)) (λ ne. set_miss xs i z a d ne)
+
+set_again : {A : Type 0} (l : List A) (i : ℕ) (a : A) → get_elem? l i ≡ some a → set l i a ≡ l
+set_again [] i a e = refl
+set_again (x ∷ xs) zero a e = λ k. sym (some-injective x a e) k ∷ xs
+set_again (x ∷ xs) (suc i) a e = λ k. x ∷ set_again xs i a e k
 
 -- nothing changed, and no state follows
 pub refuses : (x : Move) (c : CoreState) → ((t : State) → Steps c.frame x (state_of c) t → ⊥) → IsAnswer x c c false
@@ -162,6 +187,25 @@ module _ (f : Frame) (log : List Entry) (owners : List ℕ) (spoilt away : List 
           after = λ t. record { law = λ m. true; first = []; log = log; owner = λ l. get_or owners l 0; spoilt = λ q. get_or spoilt q false; away = λ q. get_or away q false; stands = λ q gs n. true; callers = callers t };
         }))
 
+    -- the row shows the same caller as before
+    pub unchanged : AnyCaller old i (λ v. Unit {0}) → caller_of log new ≡ caller_of log row → core owners spoilt away (set rows i new) ≡ old
+    unchanged b e = let P : Caller → Type 0 = λ v. Unit {0} in let a : AnyRow log rows i P = from_view (λ s. AnyCaller s i P) b in
+        (λ t. core_of ((one_map (caller_of log) rows i new (caller_of log row) e ∙ set_again (map (caller_of log) rows) i (caller_of log row) (at_row P a)) t)) ∙ view
+      where
+        core_of : List Caller → CoreState
+        core_of cs = record { frame = f; log = log; owners = owners; spoilt = spoilt; away = away; callers = cs }
+
+    pub out_done : (q : ℕ) → AnyCaller old i (MayTakeOut old.frame q) → caller_of log new ≡ took_out q (caller_of log row) → IsDone (moves.Out i q) old (core owners spoilt (set away q true) (set rows i new))
+    out_done q b e = let P : Caller → Type 0 = MayTakeOut f q in let a : AnyRow log rows i P = from_view (λ s. AnyCaller s i (MayTakeOut s.frame q)) b in
+        let low : q < length away = let m = (need P a).store in let n = ok.away in omega arith in
+        one_done (moves.Out i q) (core owners spoilt (set away q true) (set rows i new)) (done (moves.Out i q) (core owners spoilt away rows) (core owners spoilt (set away q true) (set rows i new)) ok refl refl refl (length-set away q true)
+        (record {
+          caller = caller_of log row;
+          is_caller = at_row P a;
+          needs = need P a;
+          after = λ t. record { law = λ m. true; first = []; log = log; owner = λ l. get_or owners l 0; spoilt = λ z. get_or spoilt z false; away = λ z. put_set away q true false low z t; stands = λ z gs n. true; callers = one_map (caller_of log) rows i new (took_out q (caller_of log row)) e t };
+        }))
+
 above_tail : (l x : ℕ) (xs : List ℕ) → AllBelow l (x ∷ xs) → AllBelow l xs
 above_tail l x xs h y e = h y (by_test y x (λ b. (b || has y xs) ≡ true) (λ _. refl) (λ _. e))
 
@@ -179,3 +223,7 @@ pub has_at : (xs : List ℕ) (n x : ℕ) → n < length xs → x ≡ get_or xs n
 has_at [] n x h e = absurd (omega arith)
 has_at (y ∷ ys) zero x h e = by_test x y (λ b. (b || has x ys) ≡ true) (λ _. refl) (λ ne. absurd (ne e))
 has_at (y ∷ ys) (suc n) x h e = by_test x y (λ b. (b || has x ys) ≡ true) (λ _. refl) (λ _. has_at ys n x (omega arith) e)
+
+pub any_has : (x : ℕ) (xs : List ℕ) → list_any (λ y. y == x) xs ≡ has x xs
+any_has x [] = refl
+any_has x (y ∷ ys) = by_test x y (λ b. ((y == x) || list_any (λ z. z == x) ys) ≡ (b || has x ys)) (λ e. ap (λ b. b || list_any (λ z. z == x) ys) (eq-eqb y x (sym e))) (λ ne. ap (λ b. b || list_any (λ z. z == x) ys) (ne_eqb y x (λ e. ne (sym e))) ∙ any_has x ys)

@@ -1,7 +1,7 @@
 //! The steps of the core, one for each kind of move.
 ghost use Rattle.std.specs.Prelude.{◌≡◌, length, Decides, IfOk, IfErr};
-ghost use Rattle.tk_core.specs.Lists.{AllBelow};
-ghost use Rattle.tk_core.specs.Needs.{MayLook, MayMiss, MaySplit};
+ghost use Rattle.tk_core.specs.Lists.{has, AllBelow};
+ghost use Rattle.tk_core.specs.Needs.{MayLook, MayMiss, MaySplit, MayTakeOut};
 ghost use Rattle.tk_core.specs.Program.{IsAnswer, AnyCaller, owner_of};
 ghost use Rattle.tk_core.specs.declared.moves.Move.TheVariants as moves;
 
@@ -113,6 +113,47 @@ impl Core {
         row.allowance = whole - whole / 2;
         Ok(true)
     }
+
+    fn may_take_out(&self, caller: u32, store: u32) -> bool
+        ensures { Decides result (AnyCaller self.now caller (MayTakeOut self.now.frame store)) }
+    {
+        let at = caller as usize;
+        if at >= self.rows.len() {
+            return false;
+        }
+        let row = &self.rows[at];
+        if !row.live {
+            return false;
+        }
+        if store >= self.frame.stores {
+            return false;
+        }
+        if !holds(&row.held, self.frame.stripes + store) {
+            return false;
+        }
+        !holds(&row.out, store)
+    }
+
+    /// The store is with the caller.
+    pub(crate) fn take_out(&mut self, caller: u32, store: u32) -> Result<bool, NoMemory>
+        ensures answer { IfOk result (λ done. IsAnswer (moves.Out caller store) self.old self.new done) }
+        ensures want { IfErr result (λ e. self.new ≡ self.old) }
+    {
+        if !self.may_take_out(caller, store) {
+            return Ok(false);
+        }
+        let row = &mut self.rows[caller as usize];
+        row.out.insert(0, store)?;
+        self.away[store as usize] = true;
+        Ok(true)
+    }
+}
+
+/// Whether the number stands in the list.
+fn holds(list: &[u32], number: u32) -> bool
+    ensures { result ≡ has number list.now }
+{
+    list.contains(&number)
 }
 
 /// Whether the lock is greater than each of these.
