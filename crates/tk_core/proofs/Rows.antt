@@ -177,8 +177,8 @@ module _ (f : Frame) (log : List Entry) (owners : List ℕ) (spoilt away : List 
         let a : AnyRow log rows i P = from_view (λ s. AnyCaller s i (MaySplit (length s.callers))) b in
         let h : i < length rows = in_map (caller_of log) rows i a.0 a.1 in
         let callers : map (caller_of log) (set pushed i new) ≡ set (map (caller_of log) rows) i (kept_half v) ++ new_half v ∷ [] =
-            ap (λ (rs : List Row). map (caller_of log) (set rs i new)) snoc ∙ ap (map (caller_of log)) (set_snoc rows i added new h) ∙ map_snoc (caller_of log) (set rows i new) added
-            ∙ (λ t. one_map (caller_of log) rows i new (kept_half v) kept t ++ half t ∷ []) in
+        ap (λ (rs : List Row). map (caller_of log) (set rs i new)) snoc ∙ ap (map (caller_of log)) (set_snoc rows i added new h) ∙ map_snoc (caller_of log) (set rows i new) added
+        ∙ (λ t. one_map (caller_of log) rows i new (kept_half v) kept t ++ half t ∷ []) in
         one_done (moves.Split i) (core owners spoilt away (set pushed i new)) (done (moves.Split i) (core owners spoilt away rows) (core owners spoilt away (set pushed i new)) ok refl refl refl refl
         (record {
           caller = v;

@@ -5,8 +5,8 @@ ghost use Rattle.tk_core.specs.Needs.{MayLook, MayMiss, MaySplit, MayTakeOut};
 ghost use Rattle.tk_core.specs.Program.{IsAnswer, AnyCaller, owner_of};
 ghost use Rattle.tk_core.specs.declared.moves.Move.TheVariants as moves;
 
-use crate::machine::Row;
 use crate::Core;
+use crate::machine::Row;
 use std::alloc::Global;
 use tk_model::NoMemory;
 
@@ -167,4 +167,3 @@ fn is_above(lock: u32, held: &[u32]) -> bool
     }
     true
 }
-

@@ -1,5 +1,5 @@
-use Rattle.std.proofs.Common.{rules, ◌≡◌, ℕ, suc, ◌+◌, ◌<◌, ◌≤◌, true, false, length, take, get_or, refl, subst, sym, arith}
-use Rattle.tk_core.specs.Lists.{has, AllBelow}
+use Rattle.std.proofs.Common.{rules, ◌≡◌, ℕ, suc, ◌+◌, ◌<◌, ◌≤◌, take, get_or, refl, subst, arith}
+use Rattle.tk_core.specs.Lists.{AllBelow}
 use Rattle.tk_core.proofs.Rows.{above_all, above_next, has_at}
 use Rattle.tk_core.proofs.steps.is_above.Goals as goal
 

@@ -1,9 +1,9 @@
-use Rattle.std.proofs.Common.{rules, ◌≡◌, true, false, ℕ, ◌<◌, ◌≤◌, Bool, List, [], ◌∷◌, length, map, take, refl, ap, sym, subst, ◌∙◌, arith}
+use Rattle.std.proofs.Common.{rules, ◌≡◌, length, take, sym, subst, ◌∙◌, arith}
 use Rattle.std.proofs.lemmas.List.{take_all}
 use Rattle.tk_core.specs.declared.machine.Row.{Row}
 use Rattle.tk_core.specs.Needs.{MayLook}
 use Rattle.tk_core.specs.declared.moves.Move.TheVariants as moves
-use Rattle.tk_core.specs.Program.{CoreState, AnyCaller, IsAnswer, caller_of}
+use Rattle.tk_core.specs.Program.{CoreState, AnyCaller, caller_of}
 use Rattle.tk_core.proofs.Rows.{refuses, in_map, look_done}
 use Rattle.tk_core.proofs.machine.Core.look.Goals as goal
 
@@ -24,7 +24,7 @@ invariant_of-self c =
     let old : Row = c.index_mut-row.result.now in
     let new : Row = record old { seen = c.len-seen.result; base = c.len-seen.result } in
     (look_done c.self.inside.frame c.self.inside.log.items c.self.inside.owners.items c.self.inside.spoilt.items c.self.inside.away.items c.self.inside.rows.items c.args.caller old new c.index_mut-row.ensures.value
-        c.args.self.now c.self.view_is c.self.invariant (c.may_look.ensures.0 (search rules)) (λ t. record (caller_of c.self.inside.log.items old) { seen = whole t; base = whole t })).core
+    c.args.self.now c.self.view_is c.self.invariant (c.may_look.ensures.0 (search rules)) (λ t. record (caller_of c.self.inside.log.items old) { seen = whole t; base = whole t })).core
 
 pub returns : goal.returns
 returns c =
@@ -33,4 +33,4 @@ returns c =
     let old : Row = c.index_mut-row.result.now in
     let new : Row = record old { seen = c.len-seen.result; base = c.len-seen.result } in
     (look_done c.self.inside.frame c.self.inside.log.items c.self.inside.owners.items c.self.inside.spoilt.items c.self.inside.away.items c.self.inside.rows.items c.args.caller old new c.index_mut-row.ensures.value
-        c.args.self.now c.self.view_is c.self.invariant (c.may_look.ensures.0 (search rules)) (λ t. record (caller_of c.self.inside.log.items old) { seen = whole t; base = whole t })).answer
+    c.args.self.now c.self.view_is c.self.invariant (c.may_look.ensures.0 (search rules)) (λ t. record (caller_of c.self.inside.log.items old) { seen = whole t; base = whole t })).answer

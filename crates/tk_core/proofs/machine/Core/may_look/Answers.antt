@@ -1,4 +1,4 @@
-use Rattle.std.proofs.Common.{rules, ◌≡◌, true, false, ℕ, ◌<◌, ◌≤◌, Bool, sym, subst, ◌∙◌, arith, Decides}
+use Rattle.std.proofs.Common.{rules, false, subst, Decides}
 use Rattle.tk_core.specs.Needs.{MayLook}
 use Rattle.tk_core.specs.Program.{CoreState, AnyCaller}
 use Rattle.tk_core.proofs.Rows.{nobody, decides}

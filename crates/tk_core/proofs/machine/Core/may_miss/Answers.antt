@@ -1,4 +1,4 @@
-use Rattle.std.proofs.Common.{rules, ◌≡◌, true, false, ℕ, ◌+◌, ◌<◌, ◌≤◌, ◌≢◌, Bool, get_or, length, refl, sym, subst, ◌∙◌, arith, Decides}
+use Rattle.std.proofs.Common.{rules, ◌≡◌, true, false, get_or, sym, subst, ◌∙◌, Decides}
 use Rattle.tk_core.specs.Lists.{AllBelow}
 use Rattle.tk_core.specs.Needs.{MayMiss}
 use Rattle.tk_core.specs.Program.{CoreState, AnyCaller, owner_of}
@@ -29,5 +29,5 @@ pub returns : goal.returns
 returns c =
     subst (λ (s : CoreState). Decides c.is_above.result (AnyCaller s c.args.caller (MayMiss s.frame (owner_of s) c.args.lock))) c.self.view_is
     (decides c.self.inside.log.items c.self.inside.rows.items c.args.caller c.index-row.result.now (search rules) c.index-row.ensures (MayMiss c.self.inside.frame (λ q. get_or c.self.inside.owners.items q 0) c.args.lock) c.is_above.result
-        (λ e. record { live = search rules; lock = let n = c.self.invariant.owners in search rules; taken = λ z. c.if-index-eq0.false (c.index.ensures ∙ any_default c.self.inside.owners.items c.args.lock c.index.result.now 0 (let o = c.self.inside.owners.ok.0 in search rules) ∙ z); rising = subst (AllBelow c.args.lock) c.deref.ensures.value (c.is_above.ensures.0 e) })
-        (λ m. c.is_above.ensures.1 (subst (AllBelow c.args.lock) (sym c.deref.ensures.value) m.rising)))
+    (λ e. record { live = search rules; lock = let n = c.self.invariant.owners in search rules; taken = λ z. c.if-index-eq0.false (c.index.ensures ∙ any_default c.self.inside.owners.items c.args.lock c.index.result.now 0 (let o = c.self.inside.owners.ok.0 in search rules) ∙ z); rising = subst (AllBelow c.args.lock) c.deref.ensures.value (c.is_above.ensures.0 e) })
+    (λ m. c.is_above.ensures.1 (subst (AllBelow c.args.lock) (sym c.deref.ensures.value) m.rising)))

@@ -1,9 +1,8 @@
-use Rattle.std.proofs.Common.{rules, ◌≡◌, true, false, ℕ, ◌<◌, ◌≤◌, Bool, List, [], ◌∷◌, length, map, Some, take, refl, ap, sym, subst, ◌∙◌, arith}
-use Rattle.std.proofs.lemmas.List.{take_all}
+use Rattle.std.proofs.Common.{rules, Some, refl, sym, subst}
 use Rattle.tk_core.specs.declared.machine.Row.{Row}
 use Rattle.tk_core.specs.Needs.{MayMiss}
 use Rattle.tk_core.specs.declared.moves.Move.TheVariants as moves
-use Rattle.tk_core.specs.Program.{CoreState, owner_of, AnyCaller, IsAnswer, caller_of}
+use Rattle.tk_core.specs.Program.{CoreState, owner_of, AnyCaller, caller_of}
 use Rattle.tk_core.proofs.Rows.{refuses, in_map, miss_done}
 use Rattle.tk_core.proofs.machine.Core.miss.Goals as goal
 
@@ -22,11 +21,11 @@ invariant_of-self c =
     let old : Row = c.index_mut-row.result.now in
     let new : Row = record old { want = Some c.args.lock } in
     (miss_done c.self.inside.frame c.self.inside.log.items c.self.inside.owners.items c.self.inside.spoilt.items c.self.inside.away.items c.self.inside.rows.items c.args.caller old new c.index_mut-row.ensures.value
-        c.args.self.now c.self.view_is c.self.invariant c.args.lock (c.may_miss.ensures.0 (search rules)) refl).core
+    c.args.self.now c.self.view_is c.self.invariant c.args.lock (c.may_miss.ensures.0 (search rules)) refl).core
 
 pub returns : goal.returns
 returns c =
     let old : Row = c.index_mut-row.result.now in
     let new : Row = record old { want = Some c.args.lock } in
     (miss_done c.self.inside.frame c.self.inside.log.items c.self.inside.owners.items c.self.inside.spoilt.items c.self.inside.away.items c.self.inside.rows.items c.args.caller old new c.index_mut-row.ensures.value
-        c.args.self.now c.self.view_is c.self.invariant c.args.lock (c.may_miss.ensures.0 (search rules)) refl).answer
+    c.args.self.now c.self.view_is c.self.invariant c.args.lock (c.may_miss.ensures.0 (search rules)) refl).answer

@@ -1,9 +1,8 @@
-use Rattle.std.proofs.Common.{rules, ◌≡◌, true, false, ℕ, ◌<◌, ◌≤◌, ◌-◌, ◌/◌, Bool, List, [], ◌∷◌, ◌++◌, None, length, get_or, map, refl, ap, sym, subst, ◌∙◌, arith}
+use Rattle.std.proofs.Common.{rules, ◌≡◌, true, ◌-◌, ◌/◌, List, [], ◌∷◌, ◌++◌, None, length, get_or, ap, sym, subst, ◌∙◌}
 use Rattle.tk_model.specs.declared.record.Entry.{Entry}
 use Rattle.tk_core.specs.declared.machine.Row.{Row}
 use Rattle.tk_core.specs.Moves.{kept_half, new_half}
 use Rattle.tk_core.specs.Needs.{MaySplit}
-use Rattle.tk_core.specs.declared.moves.Move.TheVariants as moves
 use Rattle.tk_core.specs.Program.{CoreState, AnyCaller, caller_of}
 use Rattle.tk_core.proofs.Rows.{in_map, same_row, split_done}
 use Rattle.tk_core.proofs.machine.Core.split.Goals as goal
@@ -38,7 +37,7 @@ invariant_of-self-2 c =
     let kept : caller_of log new ≡ kept_half (caller_of log old) = ap (λ (r : Row). caller_of log (record r { allowance = old.allowance - old.allowance / 2 })) same in
     let half : caller_of log added ≡ new_half (caller_of log old) = search rules in
     (split_done c.self.inside.frame log c.self.inside.owners.items c.self.inside.spoilt.items c.self.inside.away.items c.self.inside.rows.items c.args.caller old new c.index-row.ensures
-        c.args.self.now c.self.view_is c.self.invariant c.push.new.self.items added snoc a kept half).core
+    c.args.self.now c.self.view_is c.self.invariant c.push.new.self.items added snoc a kept half).core
 
 pub returns-clause-answer : goal.returns-clause-answer
 returns-clause-answer c =
@@ -55,4 +54,4 @@ returns-clause-answer c =
     let kept : caller_of log new ≡ kept_half (caller_of log old) = ap (λ (r : Row). caller_of log (record r { allowance = old.allowance - old.allowance / 2 })) same in
     let half : caller_of log added ≡ new_half (caller_of log old) = search rules in
     (split_done c.self.inside.frame log c.self.inside.owners.items c.self.inside.spoilt.items c.self.inside.away.items c.self.inside.rows.items c.args.caller old new c.index-row.ensures
-        c.args.self.now c.self.view_is c.self.invariant c.push.new.self.items added snoc a kept half).answer
+    c.args.self.now c.self.view_is c.self.invariant c.push.new.self.items added snoc a kept half).answer

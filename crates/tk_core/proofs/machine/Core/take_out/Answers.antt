@@ -1,4 +1,4 @@
-use Rattle.std.proofs.Common.{rules, ◌≡◌, true, false, ℕ, ◌<◌, Bool, List, [], ◌∷◌, length, map, set, refl, ap, sym, subst, ◌∙◌, arith}
+use Rattle.std.proofs.Common.{rules, ℕ, List, ap, sym, subst, ◌∙◌}
 use Rattle.tk_core.specs.declared.machine.Row.{Row}
 use Rattle.tk_core.specs.Needs.{MayTakeOut}
 use Rattle.tk_core.specs.Program.{CoreState, AnyCaller, IsCore, caller_of}
@@ -18,7 +18,7 @@ invariant_of-self c =
     let new : Row = record old { out = c.insert.new.self } in
     let a : AnyCaller c.args.self.now c.args.caller (MayTakeOut c.args.self.now.frame c.args.store) = c.may_take_out.ensures.0 (search rules) in
     let same = unchanged c.self.inside.frame c.self.inside.log.items c.self.inside.owners.items c.self.inside.spoilt.items c.self.inside.away.items c.self.inside.rows.items c.args.caller old new c.index_mut-row.ensures.value
-        c.args.self.now c.self.view_is c.self.invariant (a.0, a.1, tt) (ap (λ (xs : List ℕ). record (caller_of c.self.inside.log.items old) { out = xs }) c.in_err-insert.ensures.items) in
+    c.args.self.now c.self.view_is c.self.invariant (a.0, a.1, tt) (ap (λ (xs : List ℕ). record (caller_of c.self.inside.log.items old) { out = xs }) c.in_err-insert.ensures.items) in
     subst IsCore (c.self.view_is ∙ sym same) c.self.invariant
 
 pub returns-in_err-insert-clause-want : goal.returns-in_err-insert-clause-want
@@ -27,7 +27,7 @@ returns-in_err-insert-clause-want c =
     let new : Row = record old { out = c.insert.new.self } in
     let a : AnyCaller c.args.self.now c.args.caller (MayTakeOut c.args.self.now.frame c.args.store) = c.may_take_out.ensures.0 (search rules) in
     let same = unchanged c.self.inside.frame c.self.inside.log.items c.self.inside.owners.items c.self.inside.spoilt.items c.self.inside.away.items c.self.inside.rows.items c.args.caller old new c.index_mut-row.ensures.value
-        c.args.self.now c.self.view_is c.self.invariant (a.0, a.1, tt) (ap (λ (xs : List ℕ). record (caller_of c.self.inside.log.items old) { out = xs }) c.in_err-insert.ensures.items) in
+    c.args.self.now c.self.view_is c.self.invariant (a.0, a.1, tt) (ap (λ (xs : List ℕ). record (caller_of c.self.inside.log.items old) { out = xs }) c.in_err-insert.ensures.items) in
     search rules
 
 pub invariant_of-self-2 : goal.invariant_of-self-2
@@ -36,7 +36,7 @@ invariant_of-self-2 c =
     let new : Row = record old { out = c.insert.new.self } in
     let a : AnyCaller c.args.self.now c.args.caller (MayTakeOut c.args.self.now.frame c.args.store) = c.may_take_out.ensures.0 (search rules) in
     (out_done c.self.inside.frame c.self.inside.log.items c.self.inside.owners.items c.self.inside.spoilt.items c.self.inside.away.items c.self.inside.rows.items c.args.caller old new c.index_mut-row.ensures.value
-        c.args.self.now c.self.view_is c.self.invariant c.args.store a (ap (λ (xs : List ℕ). record (caller_of c.self.inside.log.items old) { out = xs }) c.in_ok-insert.ensures.items)).core
+    c.args.self.now c.self.view_is c.self.invariant c.args.store a (ap (λ (xs : List ℕ). record (caller_of c.self.inside.log.items old) { out = xs }) c.in_ok-insert.ensures.items)).core
 
 pub returns-clause-answer : goal.returns-clause-answer
 returns-clause-answer c =
@@ -44,4 +44,4 @@ returns-clause-answer c =
     let new : Row = record old { out = c.insert.new.self } in
     let a : AnyCaller c.args.self.now c.args.caller (MayTakeOut c.args.self.now.frame c.args.store) = c.may_take_out.ensures.0 (search rules) in
     (out_done c.self.inside.frame c.self.inside.log.items c.self.inside.owners.items c.self.inside.spoilt.items c.self.inside.away.items c.self.inside.rows.items c.args.caller old new c.index_mut-row.ensures.value
-        c.args.self.now c.self.view_is c.self.invariant c.args.store a (ap (λ (xs : List ℕ). record (caller_of c.self.inside.log.items old) { out = xs }) c.in_ok-insert.ensures.items)).answer
+    c.args.self.now c.self.view_is c.self.invariant c.args.store a (ap (λ (xs : List ℕ). record (caller_of c.self.inside.log.items old) { out = xs }) c.in_ok-insert.ensures.items)).answer
