@@ -23,7 +23,7 @@ module _ (f : Frame) (law : List Pair → Type 0) (m : List Pair) (log : List En
   own : Knows f law m log owner spoilt away stands id v
   own = sound.knows id v at
 
-  pub splits : MaySplit v → Sound f law m log owner spoilt away stands (set callers id (kept_half v) ++ new_half v ∷ [])
+  pub splits : MaySplit (length callers) v → Sound f law m log owner spoilt away stands (set callers id (kept_half v) ++ new_half v ∷ [])
   splits may = let k = own in let w : Caller = kept_half v in let n : Caller = new_half v in let rest : List Caller = set callers id w in
       let half : v.allowance / 2 + (v.allowance - v.allowance / 2) ≡ v.allowance = omega arith in
       record {

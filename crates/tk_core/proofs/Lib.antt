@@ -8,3 +8,4 @@ pub mod Halves
 pub mod Runs
 pub mod Knows
 pub mod Programs
+pub mod Rows

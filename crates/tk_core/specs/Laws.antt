@@ -38,7 +38,7 @@ abbrev pub CommitKeeps : Frame → Type 0
 CommitKeeps f = (s : State) (id : ℕ) (v : Caller) (e : Entry) → IsSound f s → IsCaller s id v → MayCommit f (λ m. s.law m ≡ true) s.first e v → IsSound f (after_commit id v e s)
 
 pub record HalvesKeep (f : Frame) : Type 0 where
-  pub split : (s : State) (id : ℕ) (v : Caller) → IsSound f s → IsCaller s id v → MaySplit v → IsSound f (after_split id v s)
+  pub split : (s : State) (id : ℕ) (v : Caller) → IsSound f s → IsCaller s id v → MaySplit (length s.callers) v → IsSound f (after_split id v s)
   pub join : (s : State) (id other : ℕ) (v u : Caller) → IsSound f s → IsCaller s id v → IsCaller s other u → MayJoin id other v u → IsSound f (after_join id other v u s)
 
 -- no lock is held, the caller's own calls are those of the whole history, and it names each broken store once and no other

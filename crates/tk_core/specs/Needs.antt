@@ -1,5 +1,5 @@
 -- What each kind of move needs.
-use Rattle.std.specs.Prelude.{◌≡◌, ◌≢◌, ◌⊎◌, ◌+◌, ◌<◌, ℕ, Bool, true, false, List, [], filter}
+use Rattle.std.specs.Prelude.{◌≡◌, ◌≢◌, ◌⊎◌, ◌+◌, ◌<◌, ◌^◌, ℕ, Bool, true, false, List, [], filter}
 use Rattle.tk_model.specs.Records.{Rising}
 use Rattle.tk_model.specs.Entries.{is_legal, after_entry, changes_of, is_in_shard}
 use Rattle.tk_model.specs.declared.record.Pair.{Pair}
@@ -76,8 +76,9 @@ pub record MayPutBack (f : Frame) (m : List Pair) (log : List Entry) (now : List
   pub stays : knows_broken v i ≡ true → is_broken ≡ true
   pub stands : is_broken ≡ false → now (groups_of f m log i) (hard_groups f m log i)
 
--- split: no lock is held
-pub record MaySplit (v : Caller) : Type 0 where
+-- split: no lock is held, and there is a number for the new caller
+pub record MaySplit (callers : ℕ) (v : Caller) : Type 0 where
+  pub few : callers < 2 ^ 32
   pub live : v.live ≡ true
   pub held : v.held ≡ []
 

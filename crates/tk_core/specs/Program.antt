@@ -1,12 +1,13 @@
 -- The core as the program keeps it: plain data, in which a caller's histories are lengths.
-use Rattle.std.specs.Prelude.{ℕ, ◌+◌, Bool, true, false, List, [], ◌∷◌, take, replicate, get_or}
+use Rattle.std.specs.Prelude.{◌≡◌, ℕ, ◌+◌, Bool, true, false, List, [], ◌∷◌, length, take, replicate, get_or}
 use Rattle.tk_model.specs.declared.record.Entry.{Entry}
 use Rattle.tk_model.specs.declared.record.Entry.TheVariants as entries
 use Rattle.tk_core.specs.declared.frame.Frame.{Frame}
 use Rattle.tk_core.specs.declared.machine.Row.{Row}
 use Rattle.tk_core.specs.Caller.{Caller}
-use Rattle.tk_core.specs.States.{State, IsSound}
-use Rattle.tk_core.specs.Steps.{first_caller}
+use Rattle.tk_core.specs.States.{State, IsSound, IsCaller}
+use Rattle.tk_core.specs.Steps.{Steps, first_caller}
+use Rattle.tk_core.specs.declared.moves.Move.{Move}
 
 -- the state of the core, as contracts see it: a list for each function of the rule, and 0 or false past its end
 pub record CoreState : Type 0 where
@@ -38,8 +39,25 @@ abbrev pub caller_of : List Entry → Row → Caller
 caller_of log r =
     record { live = r.live; allowance = r.allowance; held = r.held.items; want = r.want; out = r.out.items; seen = take r.seen log; base = take r.base log; mine = numbered log r.mine.items; breaking = r.breaking.items; broke = r.broke.items; met = r.met.items }
 
-abbrev pub IsCore : CoreState → Type 0
-IsCore c = IsSound c.frame (state_of c)
+-- a move is done where the answer says so; where not, no state follows, and nothing changed
+pub record IsAnswer (x : Move) (c d : CoreState) (is_done : Bool) : Type 0 where
+  pub frame : d.frame ≡ c.frame
+  pub done : is_done ≡ true → Steps c.frame x (state_of c) (state_of d)
+  pub refused : is_done ≡ false → (d ≡ c) × ((t : State) → Steps c.frame x (state_of c) t → ⊥)
+
+-- this number is a caller's, of whom this is so
+abbrev pub AnyCaller : CoreState → ℕ → (Caller → Type 0) → Type 0
+AnyCaller c id P = (v : Caller) × IsCaller (state_of c) id v × P v
+
+abbrev pub owner_of : CoreState → ℕ → ℕ
+owner_of c l = get_or c.owners l 0
+
+-- it meets the rule, and has an owner for each lock and two flags for each store
+pub record IsCore (c : CoreState) : Type 0 where
+  pub sound : IsSound c.frame (state_of c)
+  pub owners : length c.owners ≡ c.frame.stripes + c.frame.stores
+  pub spoilt : length c.spoilt ≡ c.frame.stores
+  pub away : length c.away ≡ c.frame.stores
 
 -- one caller, no call, each lock free and each store whole and at home
 abbrev pub first_state : Frame → CoreState

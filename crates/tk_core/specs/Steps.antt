@@ -60,7 +60,7 @@ module _ (f : Frame) (s t : State) where
   pub record Splits (id : ℕ) : Type 0 where
     pub caller : Caller
     pub is_caller : IsCaller s id caller
-    pub needs : MaySplit caller
+    pub needs : MaySplit (length s.callers) caller
     pub after : t ≡ after_split id caller s
 
   pub record Joins (id other : ℕ) : Type 0 where

@@ -5,6 +5,7 @@ mod frame;
 mod law;
 mod machine;
 mod moves;
+mod steps;
 
 pub use frame::Frame;
 pub use law::{

@@ -9,29 +9,29 @@ use tk_model::{Entry, NoMemory, Order};
 
 /// A caller, whose histories are kept as lengths.
 #[derive(Drop)]
-struct Row {
-    live: bool,
-    allowance: u64,
-    held: Vec<u32>,
-    want: Option<u32>,
-    out: Vec<u32>,
-    seen: usize,
-    base: usize,
-    mine: Vec<usize>,
-    breaking: Vec<u32>,
-    broke: Vec<u32>,
-    met: Vec<u32>,
+pub(crate) struct Row {
+    pub(crate) live: bool,
+    pub(crate) allowance: u64,
+    pub(crate) held: Vec<u32>,
+    pub(crate) want: Option<u32>,
+    pub(crate) out: Vec<u32>,
+    pub(crate) seen: usize,
+    pub(crate) base: usize,
+    pub(crate) mine: Vec<usize>,
+    pub(crate) breaking: Vec<u32>,
+    pub(crate) broke: Vec<u32>,
+    pub(crate) met: Vec<u32>,
 }
 
 /// The state machine of callers, locks, stores and one history.
 #[derive(Drop)]
 pub struct Core {
-    frame: Frame,
-    log: Vec<Entry>,
-    owners: Vec<u32>,
-    spoilt: Vec<bool>,
-    away: Vec<bool>,
-    rows: Vec<Row>,
+    pub(crate) frame: Frame,
+    pub(crate) log: Vec<Entry>,
+    pub(crate) owners: Vec<u32>,
+    pub(crate) spoilt: Vec<bool>,
+    pub(crate) away: Vec<bool>,
+    pub(crate) rows: Vec<Row>,
 }
 
 impl Model for Core {

@@ -5,3 +5,30 @@ use tk_model::Order;
 fn new_core(rt: HostRuntime) {
     assert!(rt; Core::new(rt.alloc(), 7, 64, Order::Hash).is_ok());
 }
+
+#[test]
+fn a_caller_that_is_not_there_does_nothing(rt: HostRuntime) {
+    let mut core = Core::new(rt.alloc(), 1, 16, Order::Hash).expect(&rt, "a new core");
+    assert!(rt; core.look(0));
+    assert!(rt; !core.look(1));
+}
+
+#[test]
+fn a_split_makes_the_next_caller(rt: HostRuntime) {
+    let mut core = Core::new(rt.alloc(), 1, 16, Order::Hash).expect(&rt, "a new core");
+    assert!(rt; core.split(rt.alloc(), 0).is_ok_and(|done| done));
+    assert!(rt; core.look(1));
+    assert!(rt; !core.look(2));
+}
+
+#[test]
+fn nobody_waits_for_a_free_lock(rt: HostRuntime) {
+    let mut core = Core::new(rt.alloc(), 1, 16, Order::Hash).expect(&rt, "a new core");
+    assert!(rt; !core.miss(0, 3));
+}
+
+#[test]
+fn no_store_is_taken_out_without_its_lock(rt: HostRuntime) {
+    let mut core = Core::new(rt.alloc(), 1, 16, Order::Hash).expect(&rt, "a new core");
+    assert!(rt; core.take_out(0, 0).is_ok_and(|done| !done));
+}
