@@ -1,6 +1,6 @@
 ghost use Rattle.std.specs.Prelude.{◌≡◌, ◌+◌, ◌*◌, ◌<◌, ◌≤◌, ◌++◌, ◌^◌, ◌==◌, ◌||◌, List, ℕ, [], length, IfSome, OnOk};
 ghost use Rattle.std.specs.Option.{is_some};
-ghost use Rattle.tk_disk.specs.Folder.{HasFolderCause};
+ghost use Rattle.tk_disk.specs.Disk.{HasFaultCause};
 ghost use Rattle.tk_model.specs.declared.record.Change.TheVariants as Change;
 ghost use Rattle.tk_block.specs.Blocks.{IsSmall, body_of, block_text, extent_of};
 ghost use Rattle.tk_block.specs.Layout.{laid, end_of, texts};
@@ -25,7 +25,7 @@ pub(crate) fn put_words<D: Disk>(
     ensures here { OnOk result (IfSome (D.image disk.new) (λ f. length f ≡ at.new)) }
     ensures end { OnOk result (at.new + length waiting.new ≡ at.old + length waiting.old + 8 * length words.now) }
     ensures told { is_some (D.image disk.new) ≡ is_some (D.image disk.old) }
-    ensures cause { HasFolderCause (D.fault_count disk.old) (D.fault_count disk.new) result }
+    ensures cause { HasFaultCause (D.fault_count disk.old) (D.fault_count disk.new) result }
 {
     for word in words {
         waiting.extend(&word.to_be_bytes())?;
@@ -51,7 +51,7 @@ fn put_record<D: Disk>(
     ensures here { OnOk result (IfSome (D.image disk.new) (λ f. length f ≡ at.new)) }
     ensures end { OnOk result (at.new + length waiting.new ≡ at.old + length waiting.old + extent_of (body_of 0 (Change.Put pair.now) last)) }
     ensures told { is_some (D.image disk.new) ≡ is_some (D.image disk.old) }
-    ensures cause { HasFolderCause (D.fault_count disk.old) (D.fault_count disk.new) result }
+    ensures cause { HasFaultCause (D.fault_count disk.old) (D.fault_count disk.new) result }
 {
     let place = *at + waiting.len() as u64;
     let block = Block {
@@ -92,7 +92,7 @@ pub(crate) fn put_records<D: Disk>(
     ensures here { OnOk result (IfSome (D.image disk.new) (λ f. length f ≡ at.new)) }
     ensures end { OnOk result (at.new + length waiting.new ≡ end_of (at.old + length waiting.old) (fresh_bodies each pairs.now)) }
     ensures told { is_some (D.image disk.new) ≡ is_some (D.image disk.old) }
-    ensures cause { HasFolderCause (D.fault_count disk.old) (D.fault_count disk.new) result }
+    ensures cause { HasFaultCause (D.fault_count disk.old) (D.fault_count disk.new) result }
 {
     for (i, pair) in pairs.iter().enumerate() {
         let last = is_flagged(each, i, pairs.len());

@@ -1,7 +1,6 @@
 ghost use Rattle.std.specs.Prelude.{◌≡◌, ◌≤◌, ◌++◌, ◌^◌, ◌==◌, List, [], length, drop, replicate, true, IfSome, IfOk, OnOk, Some};
 ghost use Rattle.std.specs.Option.{is_some};
-ghost use Rattle.tk_disk.specs.Folder.{HasFolderCause};
-ghost use Rattle.tk_disk.specs.Disk.{HasCause};
+ghost use Rattle.tk_disk.specs.Disk.{HasCause, HasFaultCause};
 ghost use Rattle.tk_block.specs.Text.{static_text, closing_text, is_static, base_of};
 ghost use Rattle.tk_block.specs.Layout.{laid, end_of, heads_text, texts, links_of};
 ghost use Rattle.tk_append.specs.Fresh.{AllPairsSmall, fresh_bodies, fresh_next, fresh_text, fresh_size};
@@ -58,7 +57,7 @@ fn write_records<D: Disk>(
         ≡ Some (replicate 64 0 ++ (heads_text p (laid (base_of p) (fresh_bodies each pairs.now)) ++ texts (laid (base_of p) (fresh_bodies each pairs.now)) (links_of p [] (laid (base_of p) (fresh_bodies each pairs.now))))))) }
     ensures end { IfOk result (λ n. n ≡ end_of (base_of p) (fresh_bodies each pairs.now)) }
     ensures told { is_some (D.image disk.new) ≡ is_some (D.image disk.old) }
-    ensures cause { HasFolderCause (D.fault_count disk.old) (D.fault_count disk.new) result }
+    ensures cause { HasFaultCause (D.fault_count disk.old) (D.fault_count disk.new) result }
 {
     let chains = chains_of(alloc, p, pairs)?;
     let mut waiting = Bytes::with_capacity(alloc, PIECE)?;
@@ -91,7 +90,7 @@ pub fn write_fresh<D: Disk>(
     requires empty { IfSome (D.image disk.old) (λ f. f ≡ []) }
     ensures written { OnOk result (IfSome (D.image disk.old) (λ _. D.image disk.new ≡ Some (fresh_text head.now pairs.now))) }
     ensures told { is_some (D.image disk.new) ≡ is_some (D.image disk.old) }
-    ensures cause { HasFolderCause (D.fault_count disk.old) (D.fault_count disk.new) result }
+    ensures cause { HasFaultCause (D.fault_count disk.old) (D.fault_count disk.new) result }
 {
     let each = head.kind == 2;
     let size = write_records(alloc, disk, head.p, each, pairs.as_slice())?;

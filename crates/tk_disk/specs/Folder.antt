@@ -1,9 +1,6 @@
 -- What the calls of a folder do.
-use Rattle.std.specs.Prelude.{◌≡◌, ◌≢◌, ℕ, ◌≤◌, List, [], Bool, false, Option, Some, None, Result, OnOk, IsErrOf}
+use Rattle.std.specs.Prelude.{◌≡◌, ◌≢◌, ℕ, List, [], Bool, false, Option, Some, None}
 use Rattle.tk_disk.specs.Crash.{Within}
-use Rattle.tk_disk.specs.Disk.{Rose}
-use Rattle.tk_disk.specs.declared.disk.DiskError.{DiskError}
-use Rattle.tk_disk.specs.declared.disk.DiskError.TheVariants.{Fault}
 
 -- an absent file reads as an empty one
 abbrev pub or_empty : Option (List ℕ) → List ℕ
@@ -17,12 +14,6 @@ NoneOut is_out = (name : List ℕ) → is_out name ≡ false
 -- at every name but this one both say the same
 abbrev pub SameBut : {A : Type 0} → List ℕ → (List ℕ → A) → (List ℕ → A) → Type 0
 SameBut name before after = (m : List ℕ) → m ≢ name → after m ≡ before m
-
--- the count never falls, and a fault comes only where it rose
-pub record HasFolderCause {T : Type 0} (before now : ℕ) (result : Result T DiskError) : Type 0 where
-  pub later : before ≤ now
-  pub kept : OnOk result (now ≡ before)
-  pub fault : IsErrOf result Fault → Rose before now
 
 -- Of a file, what a crash may leave now, or may have left since a moment, was so before.
 pub record SameHistory (before now : ℕ) (left leaves : List ℕ → Type 0) (past since : ℕ → List ℕ → Type 0) : Type 0 where

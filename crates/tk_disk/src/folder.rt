@@ -1,7 +1,7 @@
 ghost use Rattle.std.specs.Prelude.{◌≡◌, ◌≢◌, ◌≤◌, ℕ, List, [], Bool, true, false, IsSome, IfOk, IfSome, IfNone, OnOk, OnErr, OnSome, IsErrOf, Some, None};
 ghost use Rattle.std.specs.declared.option.Option.{Option};
-ghost use Rattle.tk_disk.specs.Disk.{HasCause};
-ghost use Rattle.tk_disk.specs.Folder.{or_empty, SameBut, SameHistory, HasFolderCause};
+ghost use Rattle.tk_disk.specs.Disk.{HasCause, HasFaultCause};
+ghost use Rattle.tk_disk.specs.Folder.{or_empty, SameBut, SameHistory};
 
 use crate::{Disk, DiskError};
 
@@ -52,7 +52,7 @@ pub trait Folder {
         ensures err_same { OnErr result (file self.new name.now ≡ file self.old name.now) }
         ensures counts { (m : List ℕ) → disk_faults self.new m ≡ disk_faults self.old m }
         ensures tells { tells self.new ≡ tells self.old }
-        ensures cause { HasFolderCause (fault_count self.old) (fault_count self.new) result }
+        ensures cause { HasFaultCause (fault_count self.old) (fault_count self.new) result }
         ensures crash { IfOk result (λ o. IfSome o (λ d. SameHistory (moment_of self.old name.now) (Self.D.moment d) (leaves self.old name.now) (Self.D.may_leave d) (left_since self.old name.now) (Self.D.left_since d))) }
         ensures none_crash { IfOk result (λ o. IfNone o (SameHistory (moment_of self.old name.now) (moment_of self.new name.now) (leaves self.old name.now) (leaves self.new name.now) (left_since self.old name.now) (left_since self.new name.now))) }
         ensures err_crash { OnErr result (SameHistory (moment_of self.old name.now) (moment_of self.new name.now) (leaves self.old name.now) (leaves self.new name.now) (left_since self.old name.now) (left_since self.new name.now)) }

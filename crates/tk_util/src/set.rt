@@ -1,7 +1,7 @@
 ghost use Rattle.std.specs.Prelude.{◌≡◌, ◌≢◌, ◌≤◌, ◌<◌, ◌^◌, ◌⊎◌, ℕ, List, [], ◌∷◌, length, true, false, IfOk, IfSome, IsErrOf, OnErr, Some, Err};
 ghost use Rattle.tk_model.specs.declared.record.Pair.{Pair};
-ghost use Rattle.tk_disk.specs.Disk.{Rose};
-ghost use Rattle.tk_disk.specs.Folder.{NoneOut, HasFolderCause};
+ghost use Rattle.tk_disk.specs.Disk.{Rose, HasFaultCause};
+ghost use Rattle.tk_disk.specs.Folder.{NoneOut};
 ghost use Rattle.tk_append.specs.Fresh.{AllPairsSmall, fresh_text, fresh_size};
 ghost use Rattle.tk_status.specs.Finish.{ended};
 ghost use Rattle.tk_util.specs.Ran.{RanSet, new_head, status_by, IsRunStatus};
@@ -44,7 +44,7 @@ fn set_fresh<D: Disk>(alloc: Global, disk: &mut D, pairs: &PairList) -> Result<b
     ensures full { IfOk result (λ b. b ≡ false → IfSome (D.image disk.old) (λ f. f ≢ [])) }
     ensures kept { IfSome (D.image disk.old) (λ f. f ≢ [] → D.image disk.new ≡ D.image disk.old) }
     ensures no_memory { result ≡ Err DiskError.NoMemory → D.image disk.new ≡ D.image disk.old }
-    ensures cause { HasFolderCause (D.fault_count disk.old) (D.fault_count disk.new) result }
+    ensures cause { HasFaultCause (D.fault_count disk.old) (D.fault_count disk.new) result }
 {
     if disk.len()? > 0 {
         return Ok(false);
