@@ -1,3 +1,6 @@
 pub mod Chains
 pub mod Fresh
+pub mod Log
+pub mod LogParts
+pub mod Opening
 pub mod Pieces

@@ -1,0 +1,31 @@
+-- A group log, by the names that contracts call its parts.
+use Rattle.std.specs.Prelude.{◌≡◌, ℕ, ◌≤◌, List, Option, IfSome}
+use Rattle.tk_model.specs.declared.record.Change.{Change}
+use Rattle.tk_model.specs.declared.record.Group.{Group}
+use Rattle.tk_model.specs.Records.{AllFit}
+use Rattle.tk_block.specs.Layout.{group_text, end_of, bodies_of}
+use Rattle.tk_block.specs.Text.{base_of}
+use Rattle.tk_block.specs.declared.head.StaticHead.{StaticHead}
+use Rattle.tk_append.specs.declared.log.GroupLog.{GroupLog}
+use Rattle.tk_append.specs.Log.{HasGroups}
+
+abbrev pub log_disk : {D : Type 0} → GroupLog D → D
+log_disk log = log.disk
+
+abbrev pub log_head : {D : Type 0} → GroupLog D → StaticHead
+log_head log = log.head
+
+-- where the next group goes
+abbrev pub log_end : {D : Type 0} → GroupLog D → ℕ
+log_end log = log.end
+
+-- a group of these changes, with these links, is ready for the end
+pub record IsReady {D : Type 0} (log : GroupLog D) (changes : List Change) (links : List ℕ) : Type 0 where
+  pub number : ℕ
+  pub fit : AllFit changes
+  pub text : log.ready ≡ group_text (record { number = number; changes = changes }) log.end links
+
+-- the log has these groups
+pub record Stands {D : Type 0} (image : D → Option (List ℕ)) (log : GroupLog D) (groups : List Group) : Type 0 where
+  pub end_is : log.end ≡ end_of (base_of log.head.p) (bodies_of groups)
+  pub there : IfSome (image log.disk) (HasGroups log.head groups)
