@@ -2,3 +2,4 @@ pub mod ChainsSteps
 pub mod FreshSteps
 pub mod Layouts
 pub mod PiecesSteps
+pub mod PlanSteps

@@ -6,9 +6,11 @@ mod chains;
 mod fresh;
 mod log;
 mod pieces;
+mod plan;
 
 pub use fresh::write_fresh;
 pub use log::GroupLog;
+pub use plan::{Plan, plan_group};
 
 #[cfg(test)]
 mod tests;
