@@ -2,4 +2,5 @@ pub mod ChainsSteps
 pub mod FreshSteps
 pub mod Layouts
 pub mod PiecesSteps
+pub mod PlanLoop
 pub mod PlanSteps
