@@ -1,3 +1,5 @@
+pub mod Calls
+pub mod Plain
 pub mod Ran
 pub mod Words
 pub mod World

@@ -1,0 +1,165 @@
+ghost use Rattle.std.specs.Prelude.{◌≡◌, ◌+◌, ◌≤◌, ◌^◌, ◌++◌, ◌==◌, ◌&&◌, not, nat_lt, ℕ, List, [], length, true, false, IfOk, IfErr, IfSome, OnOk, Some, None, sum_by};
+ghost use Rattle.tk_model.specs.Records.{after, replay, AllFit};
+ghost use Rattle.tk_model.specs.declared.record.Order.TheVariants.{Hash};
+ghost use Rattle.tk_model.specs.declared.record.Group.{Group};
+ghost use Rattle.tk_store.specs.Store.{extent_of as change_extent, Groups};
+ghost use Rattle.tk_append.specs.Pieces.{words_text};
+
+use std::alloc::Global;
+use tk_append::{GroupLog, HashedRecords, ReadLog, plan_group, read_log};
+use tk_block::{Closing, extent_of};
+use tk_disk::{Disk, DiskError};
+use tk_model::{Bytes, Change, ChangeList, NoMemory, OpenError, Unopened};
+use tk_store::StoreError;
+
+/// The file after the group that is prepared.
+#[derive(Drop)]
+pub(crate) struct Staged {
+    pub(crate) records: HashedRecords,
+    pub(crate) heads: Vec<u64>,
+    pub(crate) text: Bytes,
+}
+
+/// A store over a file of groups, with all its records in memory.
+pub(crate) struct PlainStore<D: Disk> {
+    pub(crate) alloc: Global,
+    pub(crate) log: GroupLog<D>,
+    pub(crate) records: HashedRecords,
+    pub(crate) heads: Vec<u64>,
+    pub(crate) staged: Option<Staged>,
+    /// What stands in the file.
+    pub(crate) closing: Closing,
+    pub(crate) next: u64,
+    pub(crate) last: Option<u64>,
+    pub(crate) writable: bool,
+    pub(crate) closed: bool,
+}
+
+/// The bytes that the blocks of changes take. What passes 64 bits is no sum of changes that are in memory.
+pub(crate) fn need_of(changes: &[Change]) -> Result<u64, NoMemory>
+    requires { AllFit changes.now }
+    ensures { IfOk result (λ n. n ≡ sum_by (change_extent 1) changes.now) }
+{
+    let mut need: u64 = 0;
+    for change in changes {
+        need = need.checked_add(extent_of_change(change)).ok_or(NoMemory)?;
+    }
+    Ok(need)
+}
+
+/// The group would pass the limit.
+pub(crate) fn is_over(size: u64, need: u64, limit: u64, empty: bool) -> bool
+    ensures { result ≡ (nat_lt limit (size + need) && not (empty && (need == 0))) }
+{
+    if empty && need == 0 {
+        return false;
+    }
+    limit < size || limit - size < need
+}
+
+/// The records after the changes.
+fn records_after(
+    alloc: Global,
+    records: &HashedRecords,
+    changes: &[Change],
+) -> Result<HashedRecords, NoMemory>
+    ensures { IfOk result (λ r. r ≡ after Hash changes.now records.now) }
+{
+    let mut now = records.clone()?;
+    for change in changes {
+        now.apply(alloc, change.clone()?)?;
+    }
+    Ok(now)
+}
+
+/// The text of the heads.
+fn text_of_heads(alloc: Global, heads: &[u64]) -> Result<Bytes, NoMemory>
+    ensures { IfOk result (λ t. t ≡ words_text heads.now) }
+{
+    let mut text = Bytes::new(alloc);
+    for head in heads {
+        text.extend(&head.to_be_bytes())?;
+    }
+    Ok(text)
+}
+
+/// A disk's answer as a store's: its only error is a fault.
+pub(crate) fn told<T>(answer: Result<T, DiskError>) -> Result<T, StoreError>
+    ensures ok { IfOk answer (λ v. result ≡ Ok v) }
+    ensures err { OnErr answer (result ≡ Err StoreError.Fault) }
+{
+    match answer {
+        Ok(value) => Ok(value),
+        Err(_) => Err(StoreError::Fault),
+    }
+}
+
+impl<D: Disk> PlainStore<D> {
+    ghost use Rattle.std.specs.Prelude.{◌×◌, ◌∷◌, ◌→◌};
+    ghost use Rattle.std.specs.Option.{is_some};
+    ghost use Rattle.tk_disk.specs.Disk.{Rose};
+    ghost use Rattle.tk_append.specs.Opening.{first_fault};
+    ghost use Rattle.tk_append.specs.Log.{Tells, closed_text};
+    ghost use Rattle.tk_util.specs.Plain.{alone, plain_disk, plain_head, plain_closing, plain_nature, plain_shown, IsStaged, PlainStands};
+
+    /// Opens a file of kind 1. A writable opening makes it durable that the file is open.
+    pub(crate) fn open(
+        alloc: Global,
+        disk: D,
+        writable: bool,
+    ) -> Result<PlainStore<D>, Unopened<D>>
+        ensures exact { IfSome (D.image disk) (λ f. Tells result (first_fault (1 ∷ []) writable alone f)) }
+        ensures opened { IfOk result (λ s. (groups : List Group) × PlainStands D.image s (record { records = replay Hash groups []; held = Groups groups }) [] 0
+            × IfSome (D.image disk) (λ f. f ≡ closed_text (plain_head s) groups (plain_nature s).next)) }
+        ensures kind { IfOk result (λ s. (plain_head s).kind ≡ 1) }
+        ensures mode { IfOk result (λ s. ((plain_nature s).writable ≡ writable) × ((plain_shown s).closed ≡ false)) }
+        ensures last { IfOk result (λ s. writable ≡ true → (plain_nature s).next ≤ 2 ^ 62) }
+        ensures reads { IfOk result (λ s. writable ≡ false → D.image (plain_disk s) ≡ D.image disk) }
+        ensures told { IfOk result (λ s. is_some (D.image (plain_disk s)) ≡ is_some (D.image disk)) }
+        ensures back { IfErr result (λ u. (u.cause ≡ OpenError.Fault → ⊥) → D.image u.disk ≡ D.image disk) }
+        ensures kept { IfOk result (λ s. D.fault_count (plain_disk s) ≡ D.fault_count disk) }
+        ensures fault { IfErr result (λ u. u.cause ≡ OpenError.Fault → Rose (D.fault_count disk) (D.fault_count u.disk)) }
+        ensures later { IfErr result (λ u. D.fault_count disk ≤ D.fault_count u.disk) }
+    {
+        let ReadLog {
+            log,
+            records,
+            heads,
+            next,
+        } = match read_log(alloc, disk, &[1], writable, ShardOf { index: 0, of: 1 }) {
+            Ok(read) => read,
+            Err(unopened) => return Err(unopened),
+        };
+        let closing = Closing {
+            size: log.end(),
+            count: records.len() as u64,
+            next,
+        };
+        let mut store = PlainStore {
+            alloc,
+            log,
+            records,
+            heads,
+            staged: None,
+            closing,
+            next,
+            last: None,
+            writable,
+            closed: false,
+        };
+        if writable && store.mark_open().is_err() {
+            return Err(Unopened {
+                cause: OpenError::Fault,
+                disk: store.into_disk(),
+            });
+        }
+        Ok(store)
+    }
+
+    pub(crate) fn into_disk(self) -> D
+        ensures { result ≡ plain_disk self }
+    {
+        let PlainStore { log, .. } = self;
+        log.into_disk()
+    }
+}

@@ -1,0 +1,177 @@
+ghost use Rattle.std.specs.Prelude.{◌≡◌, IfOk, OnOk, true};
+ghost use Rattle.std.specs.Option.{option_copied};
+
+use crate::plain::{PlainStore, Staged, is_over, need_of, told};
+use std::alloc::Global;
+use tk_block::Closing;
+use tk_disk::Disk;
+use tk_model::{Bound, Bytes, ChangeList, NoMemory, Order, Pair};
+use tk_store::{SeqStore, StoreError};
+
+/// The longest file.
+const LIMIT: u64 = 1 << 40;
+
+fn copied_pair(found: Option<&Pair>) -> Result<Option<Pair>, NoMemory>
+    ensures { IfOk result (λ o. o ≡ option_copied found.entry) }
+{
+    match found {
+        Some(pair) => Ok(Some(pair.clone()?)),
+        None => Ok(None),
+    }
+}
+
+impl<D: Disk> SeqStore for PlainStore<D> {
+    ghost use Rattle.std.specs.Prelude.{true, Bool};
+    ghost use Rattle.tk_util.specs.Plain.{plain_disk, plain_closing, plain_nature, plain_shown, PlainStands, PlainPrepared};
+
+    ghost nature = { plain_nature };
+
+    ghost shown = { plain_shown };
+
+    ghost stands = { PlainStands D.image };
+
+    ghost prepared = { PlainPrepared };
+
+    ghost moment = { λ s. 0 };
+
+    ghost safe = { λ s t first groups n. Unit {0} };
+
+    ghost stood = { λ s t n. PlainStands D.image s };
+
+    ghost lawful = { λ m. true };
+
+    ghost fault_count = { λ s. D.fault_count (plain_disk s) };
+
+    ghost taken_count = { λ s. D.taken_count (plain_disk s) };
+
+    ghost replays = { λ s first since hard st. st.records_now };
+
+    ghost rising = { λ s first since hard st. st.rising };
+
+    ghost held = { λ s first since hard st. st.fit };
+
+    ghost numbered = { λ s first since hard st. st.floor };
+
+    ghost synced = { λ s first since hard st. st.synced };
+
+    ghost stood_now = { λ s first since hard st. st };
+
+    ghost stood_less = { λ s t m n first since hard le st. st };
+
+    ghost stood_stands = { λ s t n first since hard st. st };
+
+    ghost stood_safe = { λ s t n first since hard st. tt };
+
+    ghost safe_less = { λ s t first since more m n less safe. tt };
+
+    ghost by_extents = { λ s v cs e. cc };
+
+    fn faults(&self) -> u64 {
+        self.log.disk_faults()
+    }
+
+    fn taken(&self) -> u64 {
+        self.log.disk_taken()
+    }
+
+    fn size(&self) -> u64 {
+        self.log.end()
+    }
+
+    fn limit(&self) -> u64 {
+        LIMIT
+    }
+
+    fn order(&self) -> Order {
+        Order::Hash
+    }
+
+    fn next_number(&self) -> u64 {
+        self.next
+    }
+
+    fn count(&self) -> u64 {
+        self.records.len() as u64
+    }
+
+    fn get(&mut self, key: &[u8], out: &mut Bytes) -> Result<bool, StoreError> {
+        match self.records.get(key) {
+            Some(value) => {
+                out.clear();
+                out.extend(value.as_slice())?;
+                Ok(true)
+            }
+            None => Ok(false),
+        }
+    }
+
+    #[tactic(auto, using(tk_store::proofs::Mem::found_fits))]
+    fn get_into(&mut self, key: &[u8], into: &mut [u8]) -> Result<Option<u32>, StoreError> {
+        match self.records.get(key) {
+            Some(value) => {
+                let n = into.len().min(value.len());
+                into[..n].copy_from_slice(&value.as_slice()[..n]);
+                Ok(Some(value.len() as u32))
+            }
+            None => Ok(None),
+        }
+    }
+
+    fn next(&mut self, bound: &Bound) -> Result<Option<Pair>, StoreError> {
+        Ok(copied_pair(self.records.first_within(bound))?)
+    }
+
+    fn prev(&mut self, bound: &Bound) -> Result<Option<Pair>, StoreError> {
+        Ok(copied_pair(self.records.last_within(bound))?)
+    }
+
+    fn check_group(&mut self, changes: &ChangeList) -> Result<u64, StoreError> {
+        Ok(need_of(changes.as_slice())?)
+    }
+
+    fn reserve_group(&mut self, changes: &ChangeList) -> Result<(), StoreError> {
+        self.staged = None;
+        let empty = changes.is_empty();
+        let size = self.log.end();
+        let need = need_of(changes.as_slice())?;
+        if is_over(size, need, LIMIT, empty) {
+            return Err(StoreError::Full {
+                size,
+                need,
+                limit: LIMIT,
+            });
+        }
+        if !empty {
+            self.staged = Some(self.stage(changes)?);
+        }
+        Ok(())
+    }
+
+    fn apply_reserved(&mut self, number: u64) -> Result<(), StoreError> {
+        match self.staged.take() {
+            Some(staged) => self.add(number, staged),
+            None => Ok(()),
+        }
+    }
+
+    fn sync(&mut self, hard: bool) -> Result<(), StoreError> {
+        if self.writable {
+            told(self.log.sync_log(hard))?;
+        }
+        Ok(())
+    }
+
+    fn close(&mut self, next: u64) -> Result<(), StoreError> {
+        self.closed = true;
+        if self.writable {
+            let count = self.records.len() as u64;
+            told(self.log.close_log(count, next))?;
+            self.closing = Closing {
+                size: self.log.end(),
+                count,
+                next,
+            };
+        }
+        Ok(())
+    }
+}
