@@ -1,4 +1,5 @@
 pub mod ChainsSteps
 pub mod FreshSteps
 pub mod Layouts
+pub mod LogSteps
 pub mod PiecesSteps
