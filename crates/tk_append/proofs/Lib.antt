@@ -1,5 +1,7 @@
+pub mod Bounds
 pub mod ChainsSteps
 pub mod FreshSteps
+pub mod Joined
 pub mod Layouts
 pub mod LogSteps
 pub mod PiecesSteps

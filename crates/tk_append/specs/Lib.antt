@@ -1,5 +1,6 @@
 pub mod Chains
 pub mod Fresh
+pub mod Hashed
 pub mod Log
 pub mod LogParts
 pub mod Opening

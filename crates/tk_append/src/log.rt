@@ -55,6 +55,20 @@ impl<D: Disk> GroupLog<D> {
         self.end
     }
 
+    /// How often a call of the disk has failed.
+    pub fn faults(&self) -> u64
+        ensures { result ≡ D.fault_count (log_disk self.now) }
+    {
+        self.disk.faults()
+    }
+
+    /// How many bytes reads of the disk have given.
+    pub fn taken(&self) -> u64
+        ensures { result ≡ D.taken_count (log_disk self.now) }
+    {
+        self.disk.taken()
+    }
+
     /// Lends the disk.
     pub fn disk(&mut self) -> &mut D
         ensures value { result.now ≡ log_disk self.old }

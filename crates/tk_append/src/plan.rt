@@ -61,7 +61,7 @@ fn chain_block(heads: &mut [u64], p: u8, place: u64, change: &Change) -> u64
 }
 
 /// The bytes of a change's block.
-fn extent_of_change(change: &Change) -> u64
+pub fn extent_of_change(change: &Change) -> u64
     requires { AllFit (change.now ∷ []) }
     ensures { (number : ℕ) (last : Bool) → result ≡ body_extent (body_of number change.now last) }
 {
