@@ -153,6 +153,7 @@ impl<D: Disk> GroupLog<D> {
         ensures told { is_some (D.image (log_disk self.new)) ≡ is_some (D.image (log_disk self.old)) }
         ensures taken { D.taken_count (log_disk self.new) ≡ D.taken_count (log_disk self.old) }
         ensures cause { HasCause (D.fault_count (log_disk self.old)) (D.fault_count (log_disk self.new)) result }
+        ensures crash { Follows (Torn 32 32) (D.may_leave (log_disk self.old)) (D.may_leave (log_disk self.new)) }
     {
         self.disk.write_at(32, &write_closing(closing))
     }
@@ -167,6 +168,7 @@ impl<D: Disk> GroupLog<D> {
         ensures told { is_some (D.image (log_disk self.new)) ≡ is_some (D.image (log_disk self.old)) }
         ensures taken { D.taken_count (log_disk self.new) ≡ D.taken_count (log_disk self.old) }
         ensures cause { HasCause (D.fault_count (log_disk self.old)) (D.fault_count (log_disk self.new)) result }
+        ensures crash { Follows (Torn 32 32) (D.may_leave (log_disk self.old)) (D.may_leave (log_disk self.new)) }
         ensures durable { OnOk result (IfSome (D.image (log_disk self.new)) (λ f. Only f (D.may_leave (log_disk self.new)))) }
     {
         let closing = Closing {
@@ -188,6 +190,7 @@ impl<D: Disk> GroupLog<D> {
         ensures told { is_some (D.image (log_disk self.new)) ≡ is_some (D.image (log_disk self.old)) }
         ensures taken { D.taken_count (log_disk self.new) ≡ D.taken_count (log_disk self.old) }
         ensures cause { HasCause (D.fault_count (log_disk self.old)) (D.fault_count (log_disk self.new)) result }
+        ensures crash { Follows (Torn 32 32) (D.may_leave (log_disk self.old)) (D.may_leave (log_disk self.new)) }
         ensures durable { OnOk result (IfSome (D.image (log_disk self.new)) (λ f. Only f (D.may_leave (log_disk self.new)))) }
     {
         self.sync_log(true)?;
@@ -208,6 +211,7 @@ impl<D: Disk> GroupLog<D> {
         ensures told { is_some (D.image (log_disk self.new)) ≡ is_some (D.image (log_disk self.old)) }
         ensures taken { D.taken_count (log_disk self.new) ≡ D.taken_count (log_disk self.old) }
         ensures cause { HasCause (D.fault_count (log_disk self.old)) (D.fault_count (log_disk self.new)) result }
+        ensures crash { Follows (Torn (64 + 8 * bucket) 8) (D.may_leave (log_disk self.old)) (D.may_leave (log_disk self.new)) }
     {
         self.disk.write_at(64 + 8 * bucket, &place.to_be_bytes())
     }
