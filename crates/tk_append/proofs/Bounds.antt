@@ -2,12 +2,11 @@
 use Rattle.std.proofs.Common.{◌≡◌, ℕ, ◌+◌, ◌-◌, ◌^◌, ◌<◌, ◌≤◌, Bool, true, false, List, [], ◌∷◌, ◌++◌, length, take, drop, get_or, Option, Some, None, refl, sym, ap, subst, ◌∙◌, arith, append-nil, if◌then◌else◌}
 use Rattle.std.proofs.lemmas.List.{length-take, length-take-le, take-append-drop, drop_more, take_more, take_all}
 use Rattle.std.specs.Ordering.{is_lt, is_le, is_gt, is_ge}
-use Rattle.std.specs.declared.cmp.Ordering.TheVariants.{Less, Greater}
+use Rattle.std.specs.declared.cmp.Ordering.TheVariants.{Less}
 use Rattle.tk_model.specs.Hashes.{mix_of, bucket_of}
 use Rattle.tk_model.specs.Orders.{key_cmp}
 use Rattle.tk_model.specs.Records.{reaches, first_within, last_within, or_else, AllBehind}
 use Rattle.tk_model.specs.declared.record.Order.TheVariants.{Hash}
-use Rattle.tk_model.specs.declared.record.Way.{Way}
 use Rattle.tk_model.specs.declared.record.Way.TheVariants.{Up, Down}
 use Rattle.tk_model.specs.declared.record.Bound.{Bound}
 use Rattle.tk_model.specs.declared.record.Bound.TheVariants.{Edge, Over, From}
@@ -30,13 +29,13 @@ or_else_none : (a : Option Pair) → or_else a None ≡ a
 or_else_none (Some p) = refl
 or_else_none None = refl
 
-pub first-append : (b : Bound) (xs ys : List Pair) → first_within Hash b (xs ++ ys) ≡ or_else (first_within Hash b xs) (first_within Hash b ys)
+first-append : (b : Bound) (xs ys : List Pair) → first_within Hash b (xs ++ ys) ≡ or_else (first_within Hash b xs) (first_within Hash b ys)
 first-append b [] ys = refl
 first-append b (p ∷ xs) ys =
     ap (λ a. if reaches Hash Up b p.key then Some p else a) (first-append b xs ys)
     ∙ or_else_more (reaches Hash Up b p.key) p (first_within Hash b xs) (first_within Hash b ys)
 
-pub last-append : (b : Bound) (xs ys : List Pair) → last_within Hash b (xs ++ ys) ≡ or_else (last_within Hash b ys) (last_within Hash b xs)
+last-append : (b : Bound) (xs ys : List Pair) → last_within Hash b (xs ++ ys) ≡ or_else (last_within Hash b ys) (last_within Hash b xs)
 last-append b [] ys = sym (or_else_none (last_within Hash b ys))
 last-append b (p ∷ xs) ys =
     ap (λ a. or_else a (if reaches Hash Down b p.key then Some p else None)) (last-append b xs ys)

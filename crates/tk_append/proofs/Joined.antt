@@ -1,5 +1,5 @@
 -- What a list of buckets, one after the other, keeps.
-use Rattle.std.proofs.Common.{◌≡◌, ℕ, ◌+◌, ◌-◌, ◌*◌, ◌/◌, ◌^◌, ◌<◌, ◌≤◌, Bool, true, false, ◌⊎◌, inl, inr, List, [], ◌∷◌, ◌++◌, length, take, drop, get_or, zero, suc, Option, Some, None, refl, sym, ap, subst, ◌∙◌, arith, append_assoc, length-append, add-one, if◌then◌else◌}
+use Rattle.std.proofs.Common.{◌≡◌, ℕ, ◌+◌, ◌-◌, ◌*◌, ◌/◌, ◌^◌, ◌<◌, ◌≤◌, Bool, true, false, inl, inr, List, [], ◌∷◌, ◌++◌, length, take, drop, get_or, zero, suc, Some, None, refl, sym, ap, subst, ◌∙◌, arith, append_assoc, length-append, add-one, if◌then◌else◌}
 use Rattle.std.proofs.Math.Nat.{div-mul-le_self}
 use Rattle.std.proofs.lemmas.List.{length-take-le, take-append-drop, drop_more, set_split, length-set, length-replicate}
 use Rattle.std.proofs.lemmas.Nat.{le-div, pow_pos}
@@ -14,7 +14,7 @@ use Rattle.tk_model.specs.Orders.{key_cmp, bytes_cmp, same_bytes}
 use Rattle.tk_model.specs.Records.{find, put, put_by, without, AllBehind, Rising}
 use Rattle.tk_model.specs.declared.record.Order.TheVariants.{Hash}
 use Rattle.tk_model.specs.declared.record.Pair.{Pair}
-use Rattle.tk_model.proofs.RecordLaws.{apart_less, apart_greater, flipped, behind_earlier, put_rising, without_rising}
+use Rattle.tk_model.proofs.RecordLaws.{apart_less, apart_greater, flipped, put_rising, without_rising}
 use Rattle.tk_append.specs.Hashed.{joined, AllOf, Placed, AreBuckets}
 
 -- ---- keys of two buckets
@@ -45,11 +45,11 @@ abbrev pub AllBefore : List ℕ → List Pair → Type 0
 AllBefore k [] = Unit {0}
 AllBefore k (p ∷ ps) = (key_cmp Hash p.key k ≡ Less) × AllBefore k ps
 
-pub before-append : (k : List ℕ) (xs ys : List Pair) → AllBefore k xs → AllBefore k ys → AllBefore k (xs ++ ys)
+before-append : (k : List ℕ) (xs ys : List Pair) → AllBefore k xs → AllBefore k ys → AllBefore k (xs ++ ys)
 before-append k [] ys some more = more
 before-append k (p ∷ xs) ys some more = (some.0, before-append k xs ys some.1 more)
 
-pub behind-append : (k : List ℕ) (xs ys : List Pair) → AllBehind Hash k xs → AllBehind Hash k ys → AllBehind Hash k (xs ++ ys)
+behind-append : (k : List ℕ) (xs ys : List Pair) → AllBehind Hash k xs → AllBehind Hash k ys → AllBehind Hash k (xs ++ ys)
 behind-append k [] ys some more = more
 behind-append k (p ∷ xs) ys some more = (some.0, behind-append k xs ys some.1 more)
 
@@ -84,7 +84,7 @@ placed_rest p i (b ∷ front) back placed =
     let e : i + 1 + length front ≡ i + length (b ∷ front) = omega arith in
     subst (λ j. Placed p j back) e (placed_rest p (i + 1) front back placed.2)
 
-pub placed_joined : (p i : ℕ) (front back : List (List Pair)) → Placed p i front → Placed p (i + length front) back → Placed p i (front ++ back)
+placed_joined : (p i : ℕ) (front back : List (List Pair)) → Placed p i front → Placed p (i + length front) back → Placed p i (front ++ back)
 placed_joined p i [] back first rest = subst (λ j. Placed p j back) (sym (more_none i)) rest
 placed_joined p i (b ∷ front) back first rest =
     let e : i + length (b ∷ front) ≡ i + 1 + length front = omega arith in
@@ -92,7 +92,7 @@ placed_joined p i (b ∷ front) back first rest =
 
 -- ---- records of two lists
 
-pub find_past : (k : List ℕ) (xs ys : List Pair) → AllBefore k xs → find k (xs ++ ys) ≡ find k ys
+find_past : (k : List ℕ) (xs ys : List Pair) → AllBefore k xs → find k (xs ++ ys) ≡ find k ys
 find_past k [] ys before = refl
 find_past k (p ∷ xs) ys before = rw (apart_greater Hash k p.key (flipped Hash p.key k Less before.0)) (find_past k xs ys before.1)
 
@@ -100,11 +100,11 @@ none_behind : (k : List ℕ) (ys : List Pair) → AllBehind Hash k ys → find k
 none_behind k [] behind = refl
 none_behind k (p ∷ ys) behind = rw (apart_less Hash k p.key behind.0) (none_behind k ys behind.1)
 
-pub find_within : (k : List ℕ) (xs ys : List Pair) → AllBehind Hash k ys → find k (xs ++ ys) ≡ find k xs
+find_within : (k : List ℕ) (xs ys : List Pair) → AllBehind Hash k ys → find k (xs ++ ys) ≡ find k xs
 find_within k [] ys behind = none_behind k ys behind
 find_within k (p ∷ xs) ys behind = ap (λ v. if same_bytes k p.key then Some p.value else v) (find_within k xs ys behind)
 
-pub put_past : (new : Pair) (xs ys : List Pair) → AllBefore new.key xs → put Hash new (xs ++ ys) ≡ xs ++ put Hash new ys
+put_past : (new : Pair) (xs ys : List Pair) → AllBefore new.key xs → put Hash new (xs ++ ys) ≡ xs ++ put Hash new ys
 put_past new [] ys before = refl
 put_past new (p ∷ xs) ys before =
     ap (λ c. put_by c new p (xs ++ ys) (put Hash new (xs ++ ys))) (flipped Hash p.key new.key Less before.0) ∙ ap (λ m. p ∷ m) (put_past new xs ys before.1)
@@ -118,12 +118,12 @@ put_by_within Less new p xs ys deep deeper e = refl
 put_by_within Equal new p xs ys deep deeper e = refl
 put_by_within Greater new p xs ys deep deeper e = ap (λ m. p ∷ m) e
 
-pub put_within : (new : Pair) (xs ys : List Pair) → AllBehind Hash new.key ys → put Hash new (xs ++ ys) ≡ put Hash new xs ++ ys
+put_within : (new : Pair) (xs ys : List Pair) → AllBehind Hash new.key ys → put Hash new (xs ++ ys) ≡ put Hash new xs ++ ys
 put_within new [] ys behind = put_first new ys behind
 put_within new (p ∷ xs) ys behind =
     put_by_within (key_cmp Hash new.key p.key) new p xs ys (put Hash new (xs ++ ys)) (put Hash new xs) (put_within new xs ys behind)
 
-pub without_past : (k : List ℕ) (xs ys : List Pair) → AllBefore k xs → without k (xs ++ ys) ≡ xs ++ without k ys
+without_past : (k : List ℕ) (xs ys : List Pair) → AllBefore k xs → without k (xs ++ ys) ≡ xs ++ without k ys
 without_past k [] ys before = refl
 without_past k (p ∷ xs) ys before =
     rw (apart_greater Hash k p.key (flipped Hash p.key k Less before.0)) (ap (λ m. p ∷ m) (without_past k xs ys before.1))
@@ -136,7 +136,7 @@ pick_within : (b : Bool) (p : Pair) (xs ys deep deeper : List Pair) → deep ≡
 pick_within true p xs ys deep deeper e = refl
 pick_within false p xs ys deep deeper e = ap (λ m. p ∷ m) e
 
-pub without_within : (k : List ℕ) (xs ys : List Pair) → AllBehind Hash k ys → without k (xs ++ ys) ≡ without k xs ++ ys
+without_within : (k : List ℕ) (xs ys : List Pair) → AllBehind Hash k ys → without k (xs ++ ys) ≡ without k xs ++ ys
 without_within k [] ys behind = without_none k ys behind
 without_within k (p ∷ xs) ys behind = pick_within (same_bytes k p.key) p xs ys (without k (xs ++ ys)) (without k xs) (without_within k xs ys behind)
 
@@ -160,13 +160,13 @@ split_at : (bs : List (List Pair)) (i : ℕ) (b : List Pair) → Stands bs i b �
 split_at bs i b at =
     sym (take-append-drop i bs) ∙ ap (λ m. take i bs ++ m) (drop_more bs i b at.inside) ∙ ap (λ a. take i bs ++ (a ∷ drop (i + 1) bs)) (sym at.is)
 
-pub joined_split : (bs : List (List Pair)) (i : ℕ) (b : List Pair) → Stands bs i b → joined bs ≡ joined (take i bs) ++ (b ++ joined (drop (i + 1) bs))
+joined_split : (bs : List (List Pair)) (i : ℕ) (b : List Pair) → Stands bs i b → joined bs ≡ joined (take i bs) ++ (b ++ joined (drop (i + 1) bs))
 joined_split bs i b at = ap joined (split_at bs i b at) ∙ joined-append (take i bs) (b ∷ drop (i + 1) bs)
 
 set_at : (bs : List (List Pair)) (i : ℕ) (b : List Pair) → i < length bs → set bs i b ≡ take i bs ++ (b ∷ drop (i + 1) bs)
 set_at bs i b inside = set_split bs i b inside ∙ ap (λ j. take i bs ++ b ∷ drop j bs) (sym (add-one i))
 
-pub joined_set : (bs : List (List Pair)) (i : ℕ) (b : List Pair) → i < length bs → joined (set bs i b) ≡ joined (take i bs) ++ (b ++ joined (drop (i + 1) bs))
+joined_set : (bs : List (List Pair)) (i : ℕ) (b : List Pair) → i < length bs → joined (set bs i b) ≡ joined (take i bs) ++ (b ++ joined (drop (i + 1) bs))
 joined_set bs i b inside = ap joined (set_at bs i b inside) ∙ joined-append (take i bs) (b ∷ drop (i + 1) bs)
 
 placed_around : (p : ℕ) (bs : List (List Pair)) (i : ℕ) (b : List Pair) → Placed p 0 bs → Stands bs i b → Placed p 0 (take i bs) × Placed p i (b ∷ drop (i + 1) bs)
@@ -178,7 +178,7 @@ placed_around p bs i b placed at =
       subst (λ j. Placed p j (b ∷ drop (i + 1) bs)) e (placed_rest p 0 (take i bs) (b ∷ drop (i + 1) bs) whole),
     )
 
-pub parted : (p : ℕ) (k : List ℕ) (bs : List (List Pair)) (i : ℕ) (b : List Pair) → Placed p 0 bs → i ≡ bucket_of (mix_of k) p → Stands bs i b → Parted k bs i
+parted : (p : ℕ) (k : List ℕ) (bs : List (List Pair)) (i : ℕ) (b : List Pair) → Placed p 0 bs → i ≡ bucket_of (mix_of k) p → Stands bs i b → Parted k bs i
 parted p k bs i b placed is at =
     let around = placed_around p bs i b placed at in
     let within = at.inside in
@@ -188,19 +188,19 @@ parted p k bs i b placed is at =
       behind = placed_behind p (i + 1) k (drop (i + 1) bs) (omega (arith, is)) around.1.2;
     }
 
-pub find_in_bucket : (k : List ℕ) (bs : List (List Pair)) (i : ℕ) (b : List Pair) → Stands bs i b → Parted k bs i → find k b ≡ find k (joined bs)
+find_in_bucket : (k : List ℕ) (bs : List (List Pair)) (i : ℕ) (b : List Pair) → Stands bs i b → Parted k bs i → find k b ≡ find k (joined bs)
 find_in_bucket k bs i b at part =
     let rest = joined (drop (i + 1) bs) in
     sym (ap (find k) (joined_split bs i b at) ∙ find_past k (joined (take i bs)) (b ++ rest) part.before ∙ find_within k b rest part.behind)
 
-pub put_in_bucket : (new : Pair) (bs : List (List Pair)) (i : ℕ) (b : List Pair) → Stands bs i b → Parted new.key bs i → joined (set bs i (put Hash new b)) ≡ put Hash new (joined bs)
+put_in_bucket : (new : Pair) (bs : List (List Pair)) (i : ℕ) (b : List Pair) → Stands bs i b → Parted new.key bs i → joined (set bs i (put Hash new b)) ≡ put Hash new (joined bs)
 put_in_bucket new bs i b at part =
     let rest = joined (drop (i + 1) bs) in
     joined_set bs i (put Hash new b) at.inside
     ∙ sym (ap (put Hash new) (joined_split bs i b at) ∙ put_past new (joined (take i bs)) (b ++ rest) part.before
     ∙ ap (λ m. joined (take i bs) ++ m) (put_within new b rest part.behind))
 
-pub without_in_bucket : (k : List ℕ) (bs : List (List Pair)) (i : ℕ) (b : List Pair) → Stands bs i b → Parted k bs i → joined (set bs i (without k b)) ≡ without k (joined bs)
+without_in_bucket : (k : List ℕ) (bs : List (List Pair)) (i : ℕ) (b : List Pair) → Stands bs i b → Parted k bs i → joined (set bs i (without k b)) ≡ without k (joined bs)
 without_in_bucket k bs i b at part =
     let rest = joined (drop (i + 1) bs) in
     joined_set bs i (without k b) at.inside
@@ -208,7 +208,7 @@ without_in_bucket k bs i b at part =
     ∙ ap (λ m. joined (take i bs) ++ m) (without_within k b rest part.behind))
 
 -- a bucket of other records in the place of one
-pub placed_set : (p : ℕ) (bs : List (List Pair)) (i : ℕ) (b new : List Pair) → Placed p 0 bs → Stands bs i b → AllOf p i new → Rising Hash new → Placed p 0 (set bs i new)
+placed_set : (p : ℕ) (bs : List (List Pair)) (i : ℕ) (b new : List Pair) → Placed p 0 bs → Stands bs i b → AllOf p i new → Rising Hash new → Placed p 0 (set bs i new)
 placed_set p bs i b new placed at all rising =
     let around = placed_around p bs i b placed at in
     let within = at.inside in
@@ -234,17 +234,17 @@ without_all : (p i : ℕ) (k : List ℕ) (b : List Pair) → AllOf p i b → All
 without_all p i k [] all = tt
 without_all p i k (q ∷ b) all = pick_all p i (same_bytes k q.key) q b (without k b) all (without_all p i k b all.1)
 
-pub put_placed : (p : ℕ) (new : Pair) (bs : List (List Pair)) (i : ℕ) (b : List Pair) → Placed p 0 bs → i ≡ bucket_of (mix_of new.key) p → Stands bs i b → Placed p 0 (set bs i (put Hash new b))
+put_placed : (p : ℕ) (new : Pair) (bs : List (List Pair)) (i : ℕ) (b : List Pair) → Placed p 0 bs → i ≡ bucket_of (mix_of new.key) p → Stands bs i b → Placed p 0 (set bs i (put Hash new b))
 put_placed p new bs i b placed is at =
     let here = (placed_around p bs i b placed at).1 in
     placed_set p bs i b (put Hash new b) placed at (put_all p i new b (sym is) here.0) (put_rising Hash new b here.1)
 
-pub without_placed : (p : ℕ) (k : List ℕ) (bs : List (List Pair)) (i : ℕ) (b : List Pair) → Placed p 0 bs → Stands bs i b → Placed p 0 (set bs i (without k b))
+without_placed : (p : ℕ) (k : List ℕ) (bs : List (List Pair)) (i : ℕ) (b : List Pair) → Placed p 0 bs → Stands bs i b → Placed p 0 (set bs i (without k b))
 without_placed p k bs i b placed at =
     let here = (placed_around p bs i b placed at).1 in
     placed_set p bs i b (without k b) placed at (without_all p i k b here.0) (without_rising Hash k b here.1)
 
-pub length_set : (bs : List (List Pair)) (i : ℕ) (b new : List Pair) → Stands bs i b → length (joined (set bs i new)) + length b ≡ length (joined bs) + length new
+length_set : (bs : List (List Pair)) (i : ℕ) (b new : List Pair) → Stands bs i b → length (joined (set bs i new)) + length b ≡ length (joined bs) + length new
 length_set bs i b new at =
     let rest = joined (drop (i + 1) bs) in
     let front = joined (take i bs) in
@@ -260,14 +260,11 @@ pub joined_none : (n : ℕ) → joined (replicate n []) ≡ []
 joined_none zero = refl
 joined_none (suc n) = joined_none n
 
-pub placed_none : (p i n : ℕ) → Placed p i (replicate n [])
+placed_none : (p i n : ℕ) → Placed p i (replicate n [])
 placed_none p i zero = tt
 placed_none p i (suc n) = (tt, tt, placed_none p (i + 1) n)
 
 -- ---- all records
-
-pub before_behind : (k : List ℕ) (q : Pair) (qs : List Pair) → key_cmp Hash k q.key ≡ Less → AllBehind Hash q.key qs → AllBehind Hash k (q ∷ qs)
-before_behind k q qs e behind = (e, behind_earlier Hash k q.key qs e behind)
 
 bucket_rising : (p i : ℕ) (b : List Pair) (bs : List (List Pair)) → AllOf p i b → Rising Hash b → Placed p (i + 1) bs → Rising Hash (joined bs) → Rising Hash (b ++ joined bs)
 bucket_rising p i [] bs all rising placed more = more

@@ -1,5 +1,5 @@
 //! Records in hash order, kept by bucket.
-ghost use Rattle.std.specs.Prelude.{◌≡◌, [], ◌∷◌, ◌≤◌, ◌<◌, ◌^◌, ◌+◌, ◌↔◌, length, replicate, take, drop, IsTrue, IfOk, OnOk, OnErr, MatchOption, MatchResult, if◌then◌else◌};
+ghost use Rattle.std.specs.Prelude.{◌≡◌, [], ◌∷◌, ◌≤◌, ◌<◌, ◌^◌, ◌+◌, ◌↔◌, length, replicate, take, drop, IsTrue, IfOk, OnOk, OnErr, MatchOption, MatchResult};
 ghost use Rattle.std.specs.Option.{option_copied};
 ghost use Rattle.tk_model.specs.Hashes.{mix_of, bucket_of};
 ghost use Rattle.tk_model.specs.Places.{StandsAt, StandsNowhere, GoesAt, GoesBefore};
@@ -115,34 +115,38 @@ fn place_to_put(pairs: &[Pair], key: &[u8]) -> Result<usize, usize>
     Err(pairs.len())
 }
 
-/// Puts a record in, and answers whether its key is new.
-fn put_in(pairs: &mut PairList, new: Pair) -> Result<bool, NoMemory>
+/// Puts a record in, and answers how many there are then, with those of the other buckets.
+fn put_in(pairs: &mut PairList, new: Pair, count: usize) -> Result<usize, NoMemory>
     ensures ok { OnOk result (pairs.new ≡ put Hash new pairs.old) }
-    ensures counted { IfOk result (λ grown. length pairs.new ≡ length pairs.old + (if grown then 1 else 0)) }
+    ensures counted { IfOk result (λ after. after + length pairs.old ≡ count + length pairs.new) }
     ensures err { OnErr result (pairs.new ≡ pairs.old) }
 {
     match place_to_put(pairs.as_slice(), new.key.as_slice()) {
         Ok(i) => {
             pairs.set(i, new);
-            Ok(false)
+            Ok(count)
         }
         Err(i) => {
+            let Some(after) = count.checked_add(1) else {
+                return Err(NoMemory);
+            };
             pairs.insert(i, new)?;
-            Ok(true)
+            Ok(after)
         }
     }
 }
 
-/// Takes a key's record out, and answers whether there was one.
-fn drop_in(pairs: &mut PairList, key: &[u8]) -> bool
+/// Takes a key's record out, and answers how many are left, with those of the other buckets.
+fn drop_in(pairs: &mut PairList, key: &[u8], count: usize) -> usize
+    requires { length pairs.old ≤ count }
     ensures rest { pairs.new ≡ without key.now pairs.old }
-    ensures counted { length pairs.old ≡ length pairs.new + (if result then 1 else 0) }
+    ensures counted { result + length pairs.old ≡ count + length pairs.new }
 {
     let Some(i) = place_of(pairs.as_slice(), key) else {
-        return false;
+        return count;
     };
     pairs.remove(i);
-    true
+    count - 1
 }
 
 fn value_in<'a>(pairs: &'a [Pair], key: &[u8]) -> Option<&'a Bytes>
@@ -293,13 +297,8 @@ impl HashedRecords {
         ensures ok { OnOk result (self.new ≡ put Hash new self.old) }
         ensures err { OnErr result (self.new ≡ self.old) }
     {
-        let Some(count) = self.count.checked_add(1) else {
-            return Err(NoMemory);
-        };
         let at = bucket_at(new.key.as_slice(), self.p);
-        if put_in(&mut self.buckets[at], new)? {
-            self.count = count;
-        }
+        self.count = put_in(&mut self.buckets[at], new, self.count)?;
         Ok(())
     }
 
@@ -307,9 +306,7 @@ impl HashedRecords {
         ensures { self.new ≡ without key.now self.old }
     {
         let at = bucket_at(key, self.p);
-        if drop_in(&mut self.buckets[at], key) {
-            self.count -= 1;
-        }
+        self.count = drop_in(&mut self.buckets[at], key, self.count);
     }
 
     pub fn clear(&mut self)

@@ -1,4 +1,4 @@
-ghost use Rattle.std.specs.Prelude.{◌≡◌, ◌<◌, ◌≤◌, ◌^◌, List, true, IfOk, IfErr, IfSome};
+ghost use Rattle.std.specs.Prelude.{◌≡◌, ◌==◌, ◌<◌, ◌≤◌, ◌^◌, List, true, IfOk, IfErr, IfSome};
 ghost use Rattle.std.specs.List.{list_any};
 ghost use Rattle.tk_disk.specs.Disk.{Rose};
 ghost use Rattle.tk_model.specs.declared.record.Group.{Group};

@@ -17,6 +17,8 @@ use Rattle.tk_block.specs.declared.head.StaticHead.{StaticHead}
 use Rattle.tk_append.specs.Log.{closed_text}
 use Rattle.tk_append.specs.Opening.{first_fault}
 use Rattle.tk_util.specs.Plain.{alone}
+use Rattle.tk_util.specs.declared.call.Stop.{Stop}
+use Rattle.tk_util.specs.declared.call.Stop.TheVariants.{Refused, Fault, NoMemory}
 
 -- a file is a hash file that an opening accepts, and holds these groups
 pub record Holds (writable : Bool) (f : List ℕ) : Type 0 where
@@ -26,31 +28,34 @@ pub record Holds (writable : Bool) (f : List ℕ) : Type 0 where
   pub next : ℕ
   pub file : f ≡ closed_text head groups next
 
-abbrev pub records_of : {writable : Bool} {f : List ℕ} → Holds writable f → List Pair
-records_of h = replay Hash h.groups []
-
 -- the bytes that changes need pass the limit of a file
 abbrev pub passes : (f : List ℕ) → List Change → Bool
 passes f changes = is_over (length f) (sum_by (extent_of 1) changes) (2 ^ 40) changes
 
--- the file after a call that was made under the next number: a group more where something changed
-abbrev pub called_file : {writable : Bool} {f : List ℕ} → Holds writable f → List Change → List ℕ
-called_file {writable = writable} {f = f} h changes = if writable then closed_text h.head (h.groups ++ group_of h.next changes) (h.next + 1) else f
+-- the file of these groups after a call under the next number: where it was opened for writing it has a group more, if something changed, and the next number is one more
+abbrev pub called_file : (writable : Bool) → StaticHead → List Group → (next : ℕ) → List Change → List ℕ
+called_file writable h groups next changes = if writable then closed_text h (groups ++ group_of next changes) (next + 1) else closed_text h groups next
 
 module _ {P : Type 0} (acts : P → List ℕ → Option (List ℕ) → Action) (turns : P → List ℕ → Option (List ℕ) → P) where
-  -- the call of a processor was made
-  pub record Made (writable : Bool) (f key : List ℕ) (old new : P) (after : Option (List ℕ)) (status : Status) : Type 0 where
-    pub holds : Holds writable f
-    pub status_is : status ≡ short_status (acts old key (find key (records_of holds)))
-    pub turned : new ≡ turns old key (find key (records_of holds))
-    pub room : passes f (call_changes acts old key (records_of holds)) ≡ false
-    pub after_is : after ≡ Some (called_file holds (call_changes acts old key (records_of holds)))
+  -- the call of a processor at a key was made on the records of these groups
+  pub record MadeOn (h : StaticHead) (groups : List Group) (next : ℕ) (writable : Bool) (key : List ℕ) (old new : P) (after : Option (List ℕ)) (status : Status) : Type 0 where
+    pub status_is : status ≡ short_status (acts old key (find key (replay Hash groups [])))
+    pub turned : new ≡ turns old key (find key (replay Hash groups []))
+    pub room : passes (closed_text h groups next) (call_changes acts old key (replay Hash groups [])) ≡ false
+    pub after_is : after ≡ Some (called_file writable h groups next (call_changes acts old key (replay Hash groups [])))
 
   -- there was no room for it
+  pub record NoRoomOn (h : StaticHead) (groups : List Group) (next : ℕ) (key : List ℕ) (old : P) (after : Option (List ℕ)) : Type 0 where
+    pub full : passes (closed_text h groups next) (call_changes acts old key (replay Hash groups [])) ≡ true
+    pub after_is : after ≡ Some (closed_text h groups next)
+
+  pub record Made (writable : Bool) (f key : List ℕ) (old new : P) (after : Option (List ℕ)) (status : Status) : Type 0 where
+    pub holds : Holds writable f
+    pub made : MadeOn holds.head holds.groups holds.next writable key old new after status
+
   pub record NoRoom (writable : Bool) (f key : List ℕ) (old : P) (after : Option (List ℕ)) : Type 0 where
     pub holds : Holds writable f
-    pub full : passes f (call_changes acts old key (records_of holds)) ≡ true
-    pub after_is : after ≡ Some f
+    pub full : NoRoomOn holds.head holds.groups holds.next key old after
 
 -- the place by which a refusal is told: 0 where there is no header
 abbrev pub place_of : OpenError → ℕ
@@ -64,3 +69,10 @@ pub record RefusedAt (writable : Bool) (f : List ℕ) (place : ℕ) : Type 0 whe
   pub cause : OpenError
   pub fault : first_fault (1 ∷ []) writable alone f ≡ Some cause
   pub place_is : place ≡ place_of cause
+
+-- why a call was not made, where the file was not opened
+abbrev pub StopTells : OpenError → Stop → Type 0
+StopTells errors.NotADatabase stop = stop ≡ Refused 0
+StopTells (errors.BrokenAt place) stop = stop ≡ Refused place
+StopTells errors.Fault stop = stop ≡ Fault
+StopTells errors.NoMemory stop = stop ≡ NoMemory

@@ -26,6 +26,10 @@ alone = record { index = 0; of = 1 }
 abbrev pub text_of : StaticHead → Closing → List Group → List ℕ
 text_of h c groups = (static_text h ++ closing_text c) ++ (heads_text h.p (blocks_of h groups) ++ texts (blocks_of h groups) (links_of h.p [] (blocks_of h groups)))
 
+-- the opening of a file of groups
+abbrev pub opening : List Group → First
+opening groups = record { records = replay Hash groups []; held = Groups groups }
+
 abbrev pub floor_of : (next : ℕ) → Option ℕ → ℕ
 floor_of next None = next
 floor_of next (Some n) = n + 1

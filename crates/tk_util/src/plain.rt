@@ -1,15 +1,26 @@
-ghost use Rattle.std.specs.Prelude.{◌≡◌, ◌+◌, ◌≤◌, ◌^◌, ◌++◌, ◌==◌, ◌&&◌, not, nat_lt, ℕ, List, [], length, true, false, IfOk, IfErr, IfSome, OnOk, Some, None, sum_by};
+//! A store over a file of groups, with all its records in memory.
+ghost use Rattle.std.specs.Prelude.{◌≡◌, ◌≢◌, ◌+◌, ◌≤◌, ◌^◌, ◌++◌, ◌==◌, ◌&&◌, ◌∷◌, not, nat_lt, ℕ, List, [], length, true, false, IfOk, IfErr, IfSome, OnOk, OnErr, Some, None, Ok, Err, sum_by};
+ghost use Rattle.std.specs.Option.{is_some, option_map};
 ghost use Rattle.tk_model.specs.Records.{after, replay, AllFit};
 ghost use Rattle.tk_model.specs.declared.record.Order.TheVariants.{Hash};
 ghost use Rattle.tk_model.specs.declared.record.Group.{Group};
-ghost use Rattle.tk_store.specs.Store.{extent_of as change_extent, Groups};
+ghost use Rattle.tk_model.specs.declared.record.Change.{Change as Changed};
+ghost use Rattle.tk_disk.specs.Disk.{Rose, HasCause, put_at};
+ghost use Rattle.tk_store.specs.Store.{extent_of as change_extent, Groups, IsWhole, Keeps};
+ghost use Rattle.tk_block.specs.Text.{base_of};
+ghost use Rattle.tk_block.specs.Blocks.{group_bodies};
+ghost use Rattle.tk_block.specs.Layout.{group_text, end_of};
 ghost use Rattle.tk_append.specs.Pieces.{words_text};
+ghost use Rattle.tk_append.specs.Opening.{first_fault};
+ghost use Rattle.tk_append.specs.Log.{Tells, closed_text};
+ghost use Rattle.tk_append.specs.LogParts.{log_disk, log_head, log_end, IsReady};
+ghost use Rattle.tk_util.specs.Plain.{alone, plain_disk, plain_head, plain_nature, plain_shown, IsStaged, PlainStands, opening};
 
 use std::alloc::Global;
-use tk_append::{GroupLog, HashedRecords, ReadLog, plan_group, read_log};
-use tk_block::{Closing, extent_of};
+use tk_append::{GroupLog, HashedRecords, ReadLog, extent_of_change, plan_group, read_log};
+use tk_block::Closing;
 use tk_disk::{Disk, DiskError};
-use tk_model::{Bytes, Change, ChangeList, NoMemory, OpenError, Unopened};
+use tk_model::{Bytes, Change, ChangeList, NoMemory, OpenError, ShardOf, Unopened};
 use tk_store::StoreError;
 
 /// The file after the group that is prepared.
@@ -58,16 +69,12 @@ pub(crate) fn is_over(size: u64, need: u64, limit: u64, empty: bool) -> bool
 }
 
 /// The records after the changes.
-fn records_after(
-    alloc: Global,
-    records: &HashedRecords,
-    changes: &[Change],
-) -> Result<HashedRecords, NoMemory>
+fn records_after(records: &HashedRecords, changes: &[Change]) -> Result<HashedRecords, NoMemory>
     ensures { IfOk result (λ r. r ≡ after Hash changes.now records.now) }
 {
     let mut now = records.clone()?;
     for change in changes {
-        now.apply(alloc, change.clone()?)?;
+        now.apply(change.clone()?)?;
     }
     Ok(now)
 }
@@ -94,14 +101,30 @@ pub(crate) fn told<T>(answer: Result<T, DiskError>) -> Result<T, StoreError>
     }
 }
 
-impl<D: Disk> PlainStore<D> {
-    ghost use Rattle.std.specs.Prelude.{◌×◌, ◌∷◌, ◌→◌};
-    ghost use Rattle.std.specs.Option.{is_some};
-    ghost use Rattle.tk_disk.specs.Disk.{Rose};
-    ghost use Rattle.tk_append.specs.Opening.{first_fault};
-    ghost use Rattle.tk_append.specs.Log.{Tells, closed_text};
-    ghost use Rattle.tk_util.specs.Plain.{alone, plain_disk, plain_head, plain_closing, plain_nature, plain_shown, IsStaged, PlainStands};
+/// Writes the group that is ready, and then the heads.
+pub(crate) fn put_group<D: Disk>(
+    log: &mut GroupLog<D>,
+    number: u64,
+    heads: &[u8],
+) -> Result<(), DiskError>
+    requires ready { (changes : List Changed) × (links : List ℕ) × IsReady log.old changes links × (end_of (log_end log.old) (group_bodies number changes) ≤ 2 ^ 40) }
+    requires here { IfSome (D.image (log_disk log.old)) (λ f. length f ≡ log_end log.old) }
+    requires p { (log_head log.old).p ≤ 24 }
+    requires base { base_of (log_head log.old).p ≤ log_end log.old }
+    requires heads { 64 + length heads.now ≡ base_of (log_head log.old).p }
+    ensures written { (changes : List Changed) (links : List ℕ) → IsReady log.old changes links
+        → OnOk result (D.image (log_disk log.new) ≡ option_map (λ f. put_at 64 heads.now (f ++ group_text (record { number = number; changes = changes }) (log_end log.old) links)) (D.image (log_disk log.old))) }
+    ensures end { (changes : List Changed) (links : List ℕ) → IsReady log.old changes links → OnOk result (log_end log.new ≡ end_of (log_end log.old) (group_bodies number changes)) }
+    ensures head { log_head log.new ≡ log_head log.old }
+    ensures told { is_some (D.image (log_disk log.new)) ≡ is_some (D.image (log_disk log.old)) }
+    ensures taken { D.taken_count (log_disk log.new) ≡ D.taken_count (log_disk log.old) }
+    ensures cause { HasCause (D.fault_count (log_disk log.old)) (D.fault_count (log_disk log.new)) result }
+{
+    log.append(number)?;
+    log.set_heads(heads)
+}
 
+impl<D: Disk> PlainStore<D> {
     /// Opens a file of kind 1. A writable opening makes it durable that the file is open.
     pub(crate) fn open(
         alloc: Global,
@@ -109,7 +132,7 @@ impl<D: Disk> PlainStore<D> {
         writable: bool,
     ) -> Result<PlainStore<D>, Unopened<D>>
         ensures exact { IfSome (D.image disk) (λ f. Tells result (first_fault (1 ∷ []) writable alone f)) }
-        ensures opened { IfOk result (λ s. (groups : List Group) × PlainStands D.image s (record { records = replay Hash groups []; held = Groups groups }) [] 0
+        ensures opened { IfOk result (λ s. (groups : List Group) × PlainStands D.image s (opening groups) [] 0
             × IfSome (D.image disk) (λ f. f ≡ closed_text (plain_head s) groups (plain_nature s).next)) }
         ensures kind { IfOk result (λ s. (plain_head s).kind ≡ 1) }
         ensures mode { IfOk result (λ s. ((plain_nature s).writable ≡ writable) × ((plain_shown s).closed ≡ false)) }
@@ -147,7 +170,7 @@ impl<D: Disk> PlainStore<D> {
             writable,
             closed: false,
         };
-        if writable && store.mark_open().is_err() {
+        if writable && store.log.mark_open().is_err() {
             return Err(Unopened {
                 cause: OpenError::Fault,
                 disk: store.into_disk(),
@@ -159,7 +182,42 @@ impl<D: Disk> PlainStore<D> {
     pub(crate) fn into_disk(self) -> D
         ensures { result ≡ plain_disk self }
     {
-        let PlainStore { log, .. } = self;
+        let PlainStore {
+            log,
+            alloc: _,
+            records: _,
+            heads: _,
+            staged: _,
+            closing: _,
+            next: _,
+            last: _,
+            writable: _,
+            closed: _,
+        } = self;
         log.into_disk()
+    }
+
+    /// Makes a group of these changes ready, and the file after it.
+    pub(crate) fn stage(&mut self, changes: &ChangeList) -> Result<Staged, NoMemory>
+        requires whole { IsWhole (PlainStands D.image) self.old }
+        requires some { changes.now ≢ [] }
+        requires fit { AllFit changes.now }
+        requires end { (plain_shown self.old).size + sum_by (change_extent 1) changes.now ≤ 2 ^ 40 }
+        ensures staged { IfOk result (IsStaged self.new changes.now) }
+        ensures stands { Keeps (PlainStands D.image) self.old self.new }
+        ensures nature { plain_nature self.new ≡ plain_nature self.old }
+        ensures shown { plain_shown self.new ≡ plain_shown self.old }
+        ensures disk { plain_disk self.new ≡ plain_disk self.old }
+    {
+        let p = self.log.head().p;
+        let plan = plan_group(self.alloc, p, &self.heads, self.log.end(), changes.as_slice())?;
+        let text = text_of_heads(self.alloc, &plan.heads)?;
+        let records = records_after(&self.records, changes.as_slice())?;
+        self.log.prepare(changes, &plan.links)?;
+        Ok(Staged {
+            records,
+            heads: plan.heads,
+            text,
+        })
     }
 }

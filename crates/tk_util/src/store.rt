@@ -1,7 +1,7 @@
 ghost use Rattle.std.specs.Prelude.{◌≡◌, IfOk, OnOk, true};
 ghost use Rattle.std.specs.Option.{option_copied};
 
-use crate::plain::{PlainStore, Staged, is_over, need_of, told};
+use crate::plain::{PlainStore, is_over, need_of, put_group, told};
 use std::alloc::Global;
 use tk_block::Closing;
 use tk_disk::Disk;
@@ -67,11 +67,11 @@ impl<D: Disk> SeqStore for PlainStore<D> {
     ghost by_extents = { λ s v cs e. cc };
 
     fn faults(&self) -> u64 {
-        self.log.disk_faults()
+        self.log.faults()
     }
 
     fn taken(&self) -> u64 {
-        self.log.disk_taken()
+        self.log.taken()
     }
 
     fn size(&self) -> u64 {
@@ -148,10 +148,14 @@ impl<D: Disk> SeqStore for PlainStore<D> {
     }
 
     fn apply_reserved(&mut self, number: u64) -> Result<(), StoreError> {
-        match self.staged.take() {
-            Some(staged) => self.add(number, staged),
-            None => Ok(()),
-        }
+        let Some(staged) = self.staged.take() else {
+            return Ok(());
+        };
+        told(put_group(&mut self.log, number, staged.text.as_slice()))?;
+        self.records = staged.records;
+        self.heads = staged.heads;
+        self.last = Some(number);
+        Ok(())
     }
 
     fn sync(&mut self, hard: bool) -> Result<(), StoreError> {

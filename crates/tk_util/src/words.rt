@@ -1,12 +1,5 @@
-ghost use Rattle.std.specs.Prelude.{◌≡◌, ◌≤◌, ◌<◌, ◌++◌, ◌∷◌, length, MatchOption, IfSome, Some, None};
-ghost use Rattle.tk_util.specs.Words.{KeyWords, SetWords, Command, Get, Set, Remove, command_of, words_of, operands, is_option, is_end, is_hash_name, is_key, is_value};
-
-/// A file and a key in it.
-#[derive(Clone, Copy)]
-pub(crate) struct KeyOperands<'a> {
-    pub file: &'a str,
-    pub key: &'a [u8],
-}
+ghost use Rattle.std.specs.Prelude.{◌≡◌, ◌<◌, ◌≤◌, ◌^◌, length, MatchOption, IfSome, Some, None};
+ghost use Rattle.tk_util.specs.Words.{command_of, words_of, is_option, is_hash_name, is_record, Set};
 
 /// The operands of `set`.
 #[derive(Clone, Copy)]
@@ -14,21 +7,6 @@ pub(crate) struct SetOperands<'a> {
     pub file: &'a str,
     pub key: &'a [u8],
     pub value: &'a [u8],
-}
-
-/// A command and its operands.
-#[derive(Clone, Copy)]
-pub(crate) enum Asked<'a> {
-    Get(KeyOperands<'a>),
-    Set(SetOperands<'a>),
-    Remove(KeyOperands<'a>),
-}
-
-/// The words before `--` and those behind it.
-#[derive(Clone, Copy)]
-struct Operands<'a> {
-    before: &'a [String],
-    behind: &'a [String],
 }
 
 fn is_option(word: &[u8]) -> bool
@@ -43,42 +21,32 @@ fn is_hash_name(name: &[u8]) -> bool
     name.len() >= 4 && &name[name.len() - 4..] == b".tkh".as_slice()
 }
 
-fn is_key(key: &[u8]) -> bool
-    ensures { result ≡ is_key key.now }
+fn is_record(key: &[u8], value: &[u8]) -> bool
+    ensures { result ≡ is_record key.now value.now }
 {
-    key.len() <= 65_535
+    key.len() <= 65_535 && value.len() <= 16_777_215
 }
 
-fn is_value(value: &[u8]) -> bool
-    ensures { result ≡ is_value value.now }
+/// Reads the words of a command.
+pub(crate) fn read_words(words: &[String]) -> Option<SetOperands<'_>>
+    ensures fits { IfSome result (λ s. (length s.key.now < 2 ^ 16) × (length s.value.now ≤ 16777215)) }
+    ensures read { MatchOption result (command_of (words_of words.now) ≡ None)
+        (λ s. command_of (words_of words.now) ≡ Some (Set (record { file = s.file.now; key = s.key.now; value = s.value.now }))) }
 {
-    value.len() <= 16_777_215
-}
-
-/// The operands among words, where no option is.
-fn operands_of(words: &[String]) -> Option<Operands<'_>>
-    ensures { MatchOption result (operands (words_of words.now) ≡ None) (λ o. operands (words_of words.now) ≡ Some (words_of o.before.now ++ words_of o.behind.now)) }
-{
-    for i in 0..words.len() {
-        let word = words[i].as_str();
-        if word == "--" {
-            return Some(Operands {
-                before: &words[..i],
-                behind: &words[i + 1..],
-            });
-        }
-        if is_option(word.as_bytes()) {
-            return None;
-        }
-    }
-    Some(Operands {
-        before: words,
-        behind: &[],
-    })
-}
-
-impl<'a> Operands<'a> {
-    fn len(self) -> usize {
-        self.before.len() + self.behind.len()
+    let [command, file, key, value] = words else {
+        return None;
+    };
+    let (command, file) = (command.as_str(), file.as_str());
+    let (key, value) = (key.as_str().as_bytes(), value.as_str().as_bytes());
+    if command == "set"
+        && !is_option(file.as_bytes())
+        && !is_option(key)
+        && !is_option(value)
+        && is_hash_name(file.as_bytes())
+        && is_record(key, value)
+    {
+        Some(SetOperands { file, key, value })
+    } else {
+        None
     }
 }

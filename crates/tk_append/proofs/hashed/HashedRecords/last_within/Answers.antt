@@ -1,4 +1,4 @@
-use Rattle.std.proofs.Common.{◌∙◌, ap, take, sym, subst, ◌≤◌, ◌^◌}
+use Rattle.std.proofs.Common.{◌∙◌, ap, take, subst, ◌≤◌, ◌^◌}
 use Rattle.tk_model.specs.Records.{last_within}
 use Rattle.tk_model.specs.declared.record.Order.TheVariants.{Hash}
 use Rattle.tk_append.specs.Hashed.{joined}
