@@ -1,2 +1,4 @@
 pub mod Names
+pub mod PlainLoops
 pub mod PlainSteps
+pub mod PutGroup

@@ -53,7 +53,10 @@ pub(crate) fn need_of(changes: &[Change]) -> Result<u64, NoMemory>
 {
     let mut need: u64 = 0;
     for change in changes {
-        need = need.checked_add(extent_of_change(change)).ok_or(NoMemory)?;
+        let Some(more) = need.checked_add(extent_of_change(change)) else {
+            return Err(NoMemory);
+        };
+        need = more;
     }
     Ok(need)
 }
@@ -68,13 +71,19 @@ pub(crate) fn is_over(size: u64, need: u64, limit: u64, empty: bool) -> bool
     limit < size || limit - size < need
 }
 
+fn copy_of(change: &Change) -> Result<Change, NoMemory>
+    ensures { IfOk result (λ c. c ≡ change.now) }
+{
+    Ok(change.clone()?)
+}
+
 /// The records after the changes.
 fn records_after(records: &HashedRecords, changes: &[Change]) -> Result<HashedRecords, NoMemory>
     ensures { IfOk result (λ r. r ≡ after Hash changes.now records.now) }
 {
     let mut now = records.clone()?;
     for change in changes {
-        now.apply(change.clone()?)?;
+        now.apply(copy_of(change)?)?;
     }
     Ok(now)
 }
@@ -121,7 +130,8 @@ pub(crate) fn put_group<D: Disk>(
     ensures cause { HasCause (D.fault_count (log_disk log.old)) (D.fault_count (log_disk log.new)) result }
 {
     log.append(number)?;
-    log.set_heads(heads)
+    log.set_heads(heads)?;
+    Ok(())
 }
 
 impl<D: Disk> PlainStore<D> {

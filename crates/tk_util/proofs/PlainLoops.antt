@@ -1,0 +1,60 @@
+-- Loops over changes and heads, by what is left.
+use Rattle.std.proofs.Common.{◌≡◌, ℕ, ◌+◌, ◌*◌, ◌≤◌, Bool, List, [], ◌∷◌, ◌++◌, length, drop, refl, sym, ◌∙◌, ap, subst, arith, append_assoc}
+use Rattle.std.specs.Prelude.{Option, Some, None, IfSome, sum_by, OnOk, Result}
+use Rattle.std.specs.Option.{option_map, is_some}
+use Rattle.std.specs.Int.{w64, to_be_bytes}
+use Rattle.std.proofs.lemmas.List.Sums.{sum_by-cons}
+use Rattle.tk_model.specs.declared.record.Change.{Change}
+use Rattle.tk_model.specs.declared.record.Change.TheVariants as changes
+use Rattle.tk_model.specs.Records.{AllFit}
+use Rattle.tk_store.specs.Store.{extent_of, extent_for}
+use Rattle.tk_block.specs.Blocks.{body_of, is_nil, group_bodies, extent_of as body_extent}
+use Rattle.tk_block.specs.Layout.{Placed, laid, links_of, end_of}
+use Rattle.tk_append.specs.Chains.{HeadsAre}
+
+-- the extent of a change is that of its block
+pub same_extent : (number : ℕ) (c : Change) (last : Bool) → body_extent (body_of number c last) ≡ extent_of 1 c
+same_extent number (changes.Put p) last = ap extent_for (omega arith)
+same_extent number (changes.Drop k) last = ap extent_for (omega arith)
+same_extent number changes.Clear last = refl
+
+fit_tail : (c : Change) (rest : List Change) → AllFit (c ∷ rest) → AllFit rest
+fit_tail (changes.Put pair) rest fit = fit.2
+fit_tail (changes.Drop key) rest fit = fit.1
+fit_tail changes.Clear rest fit = fit
+
+pub fit_rest : (c : Change) (rest all : List Change) → all ≡ c ∷ rest → AllFit all → AllFit rest
+fit_rest c rest all is fit = fit_tail c rest (subst AllFit is fit)
+
+pub fit_first : (c : Change) (rest : List Change) → AllFit (c ∷ rest) → AllFit (c ∷ [])
+fit_first (changes.Put pair) rest fit = (fit.0, fit.1, tt)
+fit_first (changes.Drop key) rest fit = (fit.0, tt)
+fit_first changes.Clear rest fit = tt
+
+add_same : (a x y s : ℕ) → x ≡ y → a + x + s ≡ a + (y + s)
+add_same a x y s e = omega (arith, e)
+
+-- a group ends behind the sum of its extents
+pub ends_sum : (number end : ℕ) (cs : List Change) → end_of end (group_bodies number cs) ≡ end + sum_by (extent_of 1) cs
+ends_sum number end [] = omega arith
+ends_sum number end (c ∷ cs) =
+    ends_sum number (end + body_extent (body_of number c (is_nil cs))) cs
+    ∙ add_same end (body_extent (body_of number c (is_nil cs))) (extent_of 1 c) (sum_by (extent_of 1) cs) (same_extent number c (is_nil cs))
+    ∙ ap (λ (n : ℕ). end + n) (sym (sum_by-cons (extent_of 1) c cs))
+
+-- a plan for equal parts
+pub moved_heads : (p q e f number : ℕ) (hs ks new : List ℕ) (cs ds : List Change) (before : List Placed) → q ≡ p → f ≡ e → ks ≡ hs → ds ≡ cs
+    → ((l : List Placed) → HeadsAre q ks l → HeadsAre q new (l ++ laid f (group_bodies number ds))) → HeadsAre p hs before → HeadsAre p new (before ++ laid e (group_bodies number cs))
+moved_heads p q e f number hs ks new cs ds before a b c d plan are =
+    subst (λ (l : List Change). HeadsAre p new (before ++ laid e (group_bodies number l))) d
+    (subst (λ (n : ℕ). HeadsAre p new (before ++ laid n (group_bodies number ds))) b
+    (subst (λ (n : ℕ). HeadsAre n new (before ++ laid f (group_bodies number ds))) a
+    (plan before (subst (λ (n : ℕ). HeadsAre n ks before) (sym a) (subst (λ (l : List ℕ). HeadsAre p l before) (sym c) are)))))
+
+pub moved_links : (p q e f number : ℕ) (hs ks links : List ℕ) (cs ds : List Change) (before : List Placed) → q ≡ p → f ≡ e → ks ≡ hs → ds ≡ cs
+    → ((l : List Placed) → HeadsAre q ks l → links ≡ links_of q l (laid f (group_bodies number ds))) → HeadsAre p hs before → links ≡ links_of p before (laid e (group_bodies number cs))
+moved_links p q e f number hs ks links cs ds before a b c d plan are =
+    plan before (subst (λ (n : ℕ). HeadsAre n ks before) (sym a) (subst (λ (l : List ℕ). HeadsAre p l before) (sym c) are))
+    ∙ ap (λ (n : ℕ). links_of n before (laid f (group_bodies number ds))) a
+    ∙ ap (λ (n : ℕ). links_of p before (laid n (group_bodies number ds))) b
+    ∙ ap (λ (l : List Change). links_of p before (laid e (group_bodies number l))) d
