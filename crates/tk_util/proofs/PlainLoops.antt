@@ -58,3 +58,13 @@ moved_links p q e f number hs ks links cs ds before a b c d plan are =
     ∙ ap (λ (n : ℕ). links_of n before (laid f (group_bodies number ds))) a
     ∙ ap (λ (n : ℕ). links_of p before (laid n (group_bodies number ds))) b
     ∙ ap (λ (l : List Change). links_of p before (laid e (group_bodies number l))) d
+
+sums : (need e more s total x : ℕ) → more ≡ need + e → e ≡ x → need + (x + s) ≡ total → more + s ≡ total
+sums need e more s total x a b c = omega (arith, a, b, c)
+
+-- one change more is summed
+pub sum_more : (need e more : ℕ) (c : Change) (rest left all : List Change) → left ≡ c ∷ rest → more ≡ need + e → e ≡ extent_of 1 c
+    → need + sum_by (extent_of 1) left ≡ sum_by (extent_of 1) all → more + sum_by (extent_of 1) rest ≡ sum_by (extent_of 1) all
+sum_more need e more c rest left all is sum long so_far =
+    sums need e more (sum_by (extent_of 1) rest) (sum_by (extent_of 1) all) (extent_of 1 c) sum long
+    (ap (λ (n : ℕ). need + n) (sym (sum_by-cons (extent_of 1) c rest)) ∙ ap (λ (l : List Change). need + sum_by (extent_of 1) l) (sym is) ∙ so_far)

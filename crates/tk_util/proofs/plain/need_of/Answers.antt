@@ -3,7 +3,7 @@ use Rattle.std.specs.Prelude.{sum_by}
 use Rattle.std.proofs.lemmas.List.{drop_more}
 use Rattle.tk_model.specs.declared.record.Change.{Change}
 use Rattle.tk_store.specs.Store.{extent_of}
-use Rattle.tk_util.proofs.PlainLoops.{same_extent, fit_rest}
+use Rattle.tk_util.proofs.PlainLoops.{same_extent, fit_rest, sum_more}
 use Rattle.tk_util.proofs.plain.need_of.Goals as goal
 
 pub loop-change-preserved : goal.loop-change-preserved
@@ -11,8 +11,6 @@ loop-change-preserved c =
     let here : drop c.loop-change.change-index c.args.changes.now ≡ c.change-item.result ∷ drop (c.loop-change.change-index + 1) c.args.changes.now =
     drop_more c.args.changes.now c.loop-change.change-index c.change-item.result c.loop-change-test.true ∙ ap (λ (x : Change). x ∷ drop (c.loop-change.change-index + 1) c.args.changes.now) (sym c.change-item.is) in
     record {
-      sum =
-          let long : c.extent_of_change.result ≡ extent_of 1 c.change-item.result = c.extent_of_change.ensures 0 true ∙ same_extent 0 c.change-item.result true in
-          omega (arith, (c.in-Some.ensures tt).1, long, c.loop-change.invariant.sum, ap (λ (l : List Change). sum_by (extent_of 1) l) here);
+      sum = sum_more _ _ _ _ _ _ _ here c.in-Some.ensures.1 (c.extent_of_change.ensures 0 true ∙ same_extent 0 c.change-item.result true) c.loop-change.invariant.sum;
       fit = fit_rest _ _ _ here c.loop-change.invariant.fit;
     }
