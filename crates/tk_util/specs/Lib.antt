@@ -1,3 +1,4 @@
+pub mod Asked
 pub mod Ran
 pub mod Words
 pub mod World

@@ -6,7 +6,7 @@ ghost use Rattle.tk_util.specs.Words.{Command, command_of, words_of};
 ghost use Rattle.tk_util.specs.Ran.{Ran, IsRunStatus};
 
 use crate::set::run_set;
-use crate::words::read_words;
+use crate::words::{Asked, read_words};
 use std::alloc::Global;
 use tk_disk::Folder;
 use tk_status::Finish;
@@ -26,6 +26,7 @@ pub fn run_util<F: Folder>(alloc: Global, words: &[String], folder: &mut F) -> F
 {
     match read_words(words) {
         None => Finish::with(1),
-        Some(set) => run_set(alloc, set, folder),
+        Some(Asked::Set(set)) => run_set(alloc, set, folder),
+        Some(Asked::Get(_) | Asked::Remove(_)) => Finish::with(1),
     }
 }
