@@ -1,4 +1,4 @@
-ghost use Rattle.std.specs.Prelude.{◌≡◌, ◌≤◌, ◌<◌, ◌^◌, length, MatchOption, IfSome, Some, None};
+ghost use Rattle.std.specs.Prelude.{◌≡◌, ◌≢◌, [], ◌∷◌, ◌≤◌, ◌<◌, ◌^◌, length, MatchOption, IfSome, Some, None};
 ghost use Rattle.tk_util.specs.Words.{command_of, words_of, operands, key_words, set_words, is_option, is_hash_name, is_key, is_value};
 ghost use Rattle.tk_util.specs.Asked.{said, key_said, set_said, all_of, IsWithin};
 
@@ -78,45 +78,61 @@ fn operands_of(words: &[String]) -> Option<Operands<'_>>
     })
 }
 
+/// Two operands, of any bytes.
+#[tactic(auto, using(crate::proofs::WordSteps::length_all))]
+fn two_of(operands: Operands<'_>) -> Option<KeyOperands<'_>>
+    ensures { MatchOption result (length (all_of operands.entry) ≢ 2) (λ k. all_of operands.entry ≡ k.file.now ∷ k.key.now ∷ []) }
+{
+    match (operands.before, operands.behind) {
+        ([file, key], []) | ([file], [key]) | ([], [file, key]) => Some(KeyOperands {
+            file: file.as_str(),
+            key: key.as_str().as_bytes(),
+        }),
+        _ => None,
+    }
+}
+
 /// The operands of `get` and of `remove`.
-#[tactic(auto, using(crate::proofs::WordSteps::no_key))]
+#[tactic(auto, using(crate::proofs::WordSteps::two_alone))]
 fn key_operands(operands: Operands<'_>) -> Option<KeyOperands<'_>>
     ensures fits { IfSome result (λ k. length k.key.now < 2 ^ 16) }
     ensures read { MatchOption result (key_words (all_of operands.entry) ≡ None) (λ k. key_words (all_of operands.entry) ≡ Some (key_said k)) }
 {
-    let (file, key) = match (operands.before, operands.behind) {
-        ([file, key], []) | ([file], [key]) | ([], [file, key]) => (file.as_str(), key.as_str()),
-        _ => return None,
-    };
-    if is_hash_name(file.as_bytes()) && is_key(key.as_bytes()) {
-        Some(KeyOperands {
-            file,
-            key: key.as_bytes(),
-        })
+    let asked = two_of(operands)?;
+    if is_hash_name(asked.file.as_bytes()) && is_key(asked.key) {
+        Some(asked)
     } else {
         None
     }
 }
 
+/// Three operands, of any bytes.
+#[tactic(auto, using(crate::proofs::WordSteps::length_all))]
+fn three_of(operands: Operands<'_>) -> Option<SetOperands<'_>>
+    ensures { MatchOption result (length (all_of operands.entry) ≢ 3) (λ s. all_of operands.entry ≡ s.file.now ∷ s.key.now ∷ s.value.now ∷ []) }
+{
+    match (operands.before, operands.behind) {
+        ([file, key, value], [])
+        | ([file, key], [value])
+        | ([file], [key, value])
+        | ([], [file, key, value]) => Some(SetOperands {
+            file: file.as_str(),
+            key: key.as_str().as_bytes(),
+            value: value.as_str().as_bytes(),
+        }),
+        _ => None,
+    }
+}
+
 /// The operands of `set`.
-#[tactic(auto, using(crate::proofs::WordSteps::no_set))]
+#[tactic(auto, using(crate::proofs::WordSteps::three_alone))]
 fn set_operands(operands: Operands<'_>) -> Option<SetOperands<'_>>
     ensures fits { IfSome result (λ s. (length s.key.now < 2 ^ 16) × (length s.value.now ≤ 16777215)) }
     ensures read { MatchOption result (set_words (all_of operands.entry) ≡ None) (λ s. set_words (all_of operands.entry) ≡ Some (set_said s)) }
 {
-    let (file, key, value) = match (operands.before, operands.behind) {
-        ([file, key, value], [])
-        | ([file, key], [value])
-        | ([file], [key, value])
-        | ([], [file, key, value]) => (file.as_str(), key.as_str(), value.as_str()),
-        _ => return None,
-    };
-    if is_hash_name(file.as_bytes()) && is_key(key.as_bytes()) && is_value(value.as_bytes()) {
-        Some(SetOperands {
-            file,
-            key: key.as_bytes(),
-            value: value.as_bytes(),
-        })
+    let asked = three_of(operands)?;
+    if is_hash_name(asked.file.as_bytes()) && is_key(asked.key) && is_value(asked.value) {
+        Some(asked)
     } else {
         None
     }
