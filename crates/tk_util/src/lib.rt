@@ -9,3 +9,6 @@ pub use run::run_util;
 
 #[cfg(test)]
 mod tests;
+
+#[cfg(test)]
+mod word_tests;

@@ -3,14 +3,14 @@ ghost use Rattle.tk_util.specs.Words.{command_of, words_of, operands, key_words,
 ghost use Rattle.tk_util.specs.Asked.{said, key_said, set_said, all_of, IsWithin};
 
 /// A file and a key in it.
-#[derive(Clone, Copy)]
+#[derive(Clone, Copy, Debug, PartialEq, Eq)]
 pub(crate) struct KeyOperands<'a> {
     pub file: &'a str,
     pub key: &'a [u8],
 }
 
 /// The operands of `set`.
-#[derive(Clone, Copy)]
+#[derive(Clone, Copy, Debug, PartialEq, Eq)]
 pub(crate) struct SetOperands<'a> {
     pub file: &'a str,
     pub key: &'a [u8],
@@ -18,7 +18,7 @@ pub(crate) struct SetOperands<'a> {
 }
 
 /// A command and its operands.
-#[derive(Clone, Copy)]
+#[derive(Clone, Copy, Debug, PartialEq, Eq)]
 pub(crate) enum Asked<'a> {
     Get(KeyOperands<'a>),
     Set(SetOperands<'a>),
