@@ -1,5 +1,5 @@
 -- What the words of a command line ask for.
-use Rattle.std.specs.Prelude.{ℕ, ◌-◌, List, [], ◌∷◌, length, drop, map, slice_index, Bool, not, ◌&&◌, ◌==◌, nat_lt, nat_le, Option, Some, None, option_map, if◌then◌else◌, String, string_bytes, codes}
+use Rattle.std.specs.Prelude.{ℕ, ◌-◌, List, [], ◌∷◌, length, drop, map, slice_index, Bool, ◌&&◌, ◌==◌, nat_lt, nat_le, Option, Some, None, option_map, if◌then◌else◌, String, string_bytes, codes}
 use Rattle.std.specs.Str.{bytes_eq}
 use Rattle.std.specs.declared.alloc.Global.{Global}
 

@@ -9,6 +9,5 @@ pub use run::run_util;
 
 #[cfg(test)]
 mod tests;
-
 #[cfg(test)]
 mod word_tests;
