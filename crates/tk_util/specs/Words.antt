@@ -1,5 +1,5 @@
 -- What the words of a command line ask for.
-use Rattle.std.specs.Prelude.{ℕ, ◌-◌, List, [], ◌∷◌, length, drop, map, slice_index, Bool, not, ◌&&◌, ◌==◌, nat_lt, nat_le, Option, Some, None, if◌then◌else◌, String, string_bytes, codes}
+use Rattle.std.specs.Prelude.{ℕ, ◌-◌, List, [], ◌∷◌, length, drop, map, slice_index, Bool, ◌&&◌, ◌==◌, nat_lt, nat_le, Option, Some, None, option_map, if◌then◌else◌, String, string_bytes, codes}
 use Rattle.std.specs.Str.{bytes_eq}
 use Rattle.std.specs.declared.alloc.Global.{Global}
 
@@ -8,9 +8,15 @@ pub record SetWords : Type 0 where
   pub key : List ℕ
   pub value : List ℕ
 
+pub record KeyWords : Type 0 where
+  pub file : List ℕ
+  pub key : List ℕ
+
 -- a command and its operands
 pub data Command : Type 0 where
+  Get : KeyWords → Command
   Set : SetWords → Command
+  Remove : KeyWords → Command
 
 abbrev pub words_of : List (String Global) → List (List ℕ)
 words_of words = map (λ w. string_bytes w) words
@@ -19,18 +25,46 @@ words_of words = map (λ w. string_bytes w) words
 abbrev pub is_option : List ℕ → Bool
 is_option w = nat_lt 1 (length w) && (slice_index w 0 == 45)
 
+abbrev pub is_end : List ℕ → Bool
+is_end w = bytes_eq w (codes "--")
+
+-- the words without `--`, behind which each word is an operand; no option is known
+abbrev pub operands : List (List ℕ) → Option (List (List ℕ))
+operands [] = Some []
+operands (w ∷ ws) = if is_end w then Some ws else (if is_option w then None else option_map (λ rest. w ∷ rest) (operands ws))
+
 -- a name that ends in `.tkh`
 abbrev pub is_hash_name : List ℕ → Bool
 is_hash_name f = nat_le 4 (length f) && bytes_eq (drop (length f - 4) f) (codes ".tkh")
 
--- a key and a value within their limits
-abbrev pub is_record : (key value : List ℕ) → Bool
-is_record k v = nat_le (length k) 65535 && nat_le (length v) 16777215
+abbrev pub is_key : List ℕ → Bool
+is_key k = nat_le (length k) 65535
 
-abbrev pub asks_set : (command file key value : List ℕ) → Bool
-asks_set c f k v = bytes_eq c (codes "set") && not (is_option f) && not (is_option k) && not (is_option v) && is_hash_name f && is_record k v
+abbrev pub is_value : List ℕ → Bool
+is_value v = nat_le (length v) 16777215
 
--- `set FILE KEY VALUE`
+-- `FILE KEY`
+abbrev pub key_words : List (List ℕ) → Option KeyWords
+key_words (f ∷ k ∷ []) = if is_hash_name f && is_key k then Some (record { file = f; key = k }) else None
+key_words words = None
+
+-- `FILE KEY VALUE`
+abbrev pub set_words : List (List ℕ) → Option SetWords
+set_words (f ∷ k ∷ v ∷ []) = if is_hash_name f && is_key k && is_value v then Some (record { file = f; key = k; value = v }) else None
+set_words words = None
+
+-- `get FILE KEY`, `set FILE KEY VALUE`, `remove FILE KEY`
+abbrev pub asked : (command : List ℕ) → List (List ℕ) → Option Command
+asked c words =
+    if bytes_eq c (codes "get") then option_map Get (key_words words)
+    else (if bytes_eq c (codes "set") then option_map Set (set_words words)
+    else (if bytes_eq c (codes "remove") then option_map Remove (key_words words) else None))
+
+abbrev pub asked_of : (command : List ℕ) → Option (List (List ℕ)) → Option Command
+asked_of c None = None
+asked_of c (Some words) = asked c words
+
+-- the first word names the command
 abbrev pub command_of : List (List ℕ) → Option Command
-command_of (c ∷ f ∷ k ∷ v ∷ []) = if asks_set c f k v then Some (Set (record { file = f; key = k; value = v })) else None
-command_of words = None
+command_of [] = None
+command_of (c ∷ words) = asked_of c (operands words)

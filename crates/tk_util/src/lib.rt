@@ -2,6 +2,8 @@
 #![tactic(auto)]
 
 mod call;
+mod end;
+mod key;
 mod plain;
 mod run;
 mod set;
@@ -12,3 +14,5 @@ pub use run::run_util;
 
 #[cfg(test)]
 mod tests;
+#[cfg(test)]
+mod word_tests;

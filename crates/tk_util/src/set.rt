@@ -1,18 +1,23 @@
-ghost use Rattle.std.specs.Prelude.{◌≡◌, ◌≢◌, ◌≤◌, ◌<◌, ◌^◌, ◌⊎◌, ℕ, List, [], ◌∷◌, length, true, false, IfOk, IfSome, IsErrOf, OnErr, Some, Err};
+ghost use Rattle.std.specs.Prelude.{◌≡◌, ◌≢◌, ◌≤◌, ◌<◌, ◌^◌, ◌⊎◌, ℕ, List, [], ◌∷◌, length, true, false, Option, IfOk, IfSome, OnOk, Some, Err};
 ghost use Rattle.tk_model.specs.declared.record.Pair.{Pair};
 ghost use Rattle.tk_disk.specs.Disk.{Rose, HasFaultCause};
 ghost use Rattle.tk_disk.specs.Folder.{NoneOut};
 ghost use Rattle.tk_append.specs.Fresh.{AllPairsSmall, fresh_text, fresh_size};
-ghost use Rattle.tk_status.specs.Finish.{ended};
-ghost use Rattle.tk_util.specs.Ran.{RanSet, new_head, status_by, IsRunStatus};
+ghost use Rattle.tk_proc.specs.Replies.{set_reply};
+ghost use Rattle.tk_util.specs.Asked.{set_said};
+ghost use Rattle.tk_util.specs.Done.{CallDone, FreshAnswer};
+ghost use Rattle.tk_util.specs.Ran.{RanSet, new_head, set_text, IsRunStatus, IsEnd};
 
+use crate::call::{Called, Stop, run_call};
+use crate::end::end_of;
 use crate::words::SetOperands;
 use std::alloc::Global;
 use tk_append::write_fresh;
 use tk_block::StaticHead;
 use tk_disk::{Disk, DiskError, Folder};
 use tk_model::{Bytes, NoMemory, Pair, PairList};
-use tk_status::Finish;
+use tk_proc::Setter;
+use tk_status::{Finish, Status};
 
 /// The header of a new hash file.
 const NEW_HEAD: StaticHead = StaticHead {
@@ -59,26 +64,67 @@ fn set_fresh<D: Disk>(alloc: Global, disk: &mut D, pairs: &PairList) -> Result<b
     }
 }
 
-/// The end of a command by what writing and giving the disk back answered.
-fn end_of(answer: Result<bool, DiskError>, given: Result<(), DiskError>) -> Finish
-    ensures { result ≡ ended (status_by answer given) }
+/// One call that sets a key in a file that has bytes.
+fn set_more<D: Disk>(alloc: Global, disk: D, key: &[u8], value: &[u8]) -> Called<D>
+    requires key { length key.now < 2 ^ 16 }
+    requires value { length value.now ≤ 16777215 }
+    ensures call { IfSome (D.image disk) (λ f. CallDone true (set_reply value.now true) key.now f (D.image result.disk) result.answer) }
+    ensures later { D.fault_count disk ≤ D.fault_count result.disk }
+    ensures fault { result.answer ≡ Err Stop.Fault → Rose (D.fault_count disk) (D.fault_count result.disk) }
 {
-    match (answer, given) {
-        (Ok(true), Ok(())) => Finish::with(0),
-        (Ok(false), _) => Finish::refused(0, 0),
-        (Err(DiskError::NoMemory), Ok(())) => Finish::with(5),
-        _ => Finish::with(4),
+    let Ok(value) = Bytes::from_slice(alloc, value) else {
+        return Called {
+            disk,
+            answer: Err(Stop::NoMemory),
+        };
+    };
+    let mut setter = Setter::new(value);
+    run_call(alloc, disk, true, key, &mut setter)
+}
+
+/// Sets a key in a file, which may be empty.
+fn set_on<D: Disk>(
+    alloc: Global,
+    mut disk: D,
+    pairs: &PairList,
+    key: &[u8],
+    value: &[u8],
+) -> Called<D>
+    requires pairs { pairs.now ≡ record { key = key.now; value = value.now } ∷ [] }
+    requires key { length key.now < 2 ^ 16 }
+    requires value { length value.now ≤ 16777215 }
+    ensures fresh { IfSome (D.image disk) (λ f. f ≡ [] → OnOk result.answer (D.image result.disk ≡ Some (set_text key.now value.now))) }
+    ensures fresh_ends { IfSome (D.image disk) (λ f. f ≡ [] → FreshAnswer result.answer) }
+    ensures more { IfSome (D.image disk) (λ f. f ≢ [] → CallDone true (set_reply value.now true) key.now f (D.image result.disk) result.answer) }
+    ensures no_memory { result.answer ≡ Err Stop.NoMemory → D.image result.disk ≡ D.image disk }
+    ensures later { D.fault_count disk ≤ D.fault_count result.disk }
+    ensures fault { result.answer ≡ Err Stop.Fault → Rose (D.fault_count disk) (D.fault_count result.disk) }
+{
+    match set_fresh(alloc, &mut disk, pairs) {
+        Ok(true) => Called {
+            disk,
+            answer: Ok(Status::Success),
+        },
+        Ok(false) => set_more(alloc, disk, key, value),
+        Err(DiskError::Fault) => Called {
+            disk,
+            answer: Err(Stop::Fault),
+        },
+        Err(DiskError::NoMemory) => Called {
+            disk,
+            answer: Err(Stop::NoMemory),
+        },
     }
 }
 
-/// `set`: makes a file of one record.
+/// `set`: makes a file of one record, or sets a key in one that has bytes.
 pub(crate) fn run_set<F: Folder>(alloc: Global, set: SetOperands<'_>, folder: &mut F) -> Finish
     requires key { length set.key.now < 2 ^ 16 }
     requires value { length set.value.now ≤ 16777215 }
     requires home { NoneOut (F.is_out folder.old) }
-    ensures ran { F.tells folder.old ≡ true
-        → RanSet (record { file = set.entry.file.now; key = set.entry.key.now; value = set.entry.value.now }) (record { files = F.file folder.old }) (record { files = F.file folder.new }) result }
-    ensures fields { result ≡ ended result.status }
+    ensures ran { (left held : Option (List ℕ)) → F.tells folder.old ≡ true
+        → RanSet (set_said set.entry) (record { files = F.file folder.old; left = left; held = held }) (record { files = F.file folder.new; left = left; held = held }) result }
+    ensures fields { IsEnd result }
     ensures status { IsRunStatus result.status }
     ensures fault { result.status ≡ 4 → Rose (F.fault_count folder.old) (F.fault_count folder.new)
         ⊎ ((name : List ℕ) × Rose (F.disk_faults folder.old name) (F.disk_faults folder.new name)) }
@@ -87,13 +133,13 @@ pub(crate) fn run_set<F: Folder>(alloc: Global, set: SetOperands<'_>, folder: &m
     let Ok(pairs) = one_record(alloc, set.key, set.value) else {
         return Finish::with(5);
     };
-    let mut disk = match folder.take(set.file, true) {
+    let disk = match folder.take(set.file, true) {
         Ok(Some(disk)) => disk,
         Ok(None) => unreachable!(),
         Err(DiskError::Fault) => return Finish::with(4),
         Err(DiskError::NoMemory) => return Finish::with(5),
     };
-    let answer = set_fresh(alloc, &mut disk, &pairs);
+    let Called { disk, answer } = set_on(alloc, disk, &pairs, set.key, set.value);
     let given = folder.give(set.file, disk);
     end_of(answer, given)
 }

@@ -12,7 +12,7 @@ use tk_status::Finish;
 /// The room that the disk of a first set needs: two writes and two synchronisations.
 const ROOM: u64 = 64 + 8304 + 64 + 64 + 64 + 64;
 
-fn words(alloc: Global, texts: &[&str]) -> Result<Vec<String>, AllocError> {
+pub(crate) fn words(alloc: Global, texts: &[&str]) -> Result<Vec<String>, AllocError> {
     let mut words = Vec::new(alloc);
     for text in texts {
         words.push(String::from_str(alloc, text)?)?;

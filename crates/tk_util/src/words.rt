@@ -1,12 +1,35 @@
-ghost use Rattle.std.specs.Prelude.{◌≡◌, ◌<◌, ◌≤◌, ◌^◌, length, MatchOption, IfSome, Some, None};
-ghost use Rattle.tk_util.specs.Words.{command_of, words_of, is_option, is_hash_name, is_record, Set};
+ghost use Rattle.std.specs.Prelude.{◌≡◌, ◌≢◌, [], ◌∷◌, ◌≤◌, ◌<◌, ◌^◌, length, MatchOption, IfSome, Some, None};
+ghost use Rattle.tk_util.specs.Words.{command_of, words_of, operands, key_words, set_words, is_option, is_hash_name, is_key, is_value};
+ghost use Rattle.tk_util.specs.Asked.{said, key_said, set_said, all_of, IsWithin};
+
+/// A file and a key in it.
+#[derive(Clone, Copy, Debug, PartialEq, Eq)]
+pub(crate) struct KeyOperands<'a> {
+    pub file: &'a str,
+    pub key: &'a [u8],
+}
 
 /// The operands of `set`.
-#[derive(Clone, Copy)]
+#[derive(Clone, Copy, Debug, PartialEq, Eq)]
 pub(crate) struct SetOperands<'a> {
     pub file: &'a str,
     pub key: &'a [u8],
     pub value: &'a [u8],
+}
+
+/// A command and its operands.
+#[derive(Clone, Copy, Debug, PartialEq, Eq)]
+pub(crate) enum Asked<'a> {
+    Get(KeyOperands<'a>),
+    Set(SetOperands<'a>),
+    Remove(KeyOperands<'a>),
+}
+
+/// The words before `--` and those behind it.
+#[derive(Clone, Copy)]
+struct Operands<'a> {
+    before: &'a [String],
+    behind: &'a [String],
 }
 
 fn is_option(word: &[u8]) -> bool
@@ -21,32 +44,111 @@ fn is_hash_name(name: &[u8]) -> bool
     name.len() >= 4 && &name[name.len() - 4..] == b".tkh".as_slice()
 }
 
-fn is_record(key: &[u8], value: &[u8]) -> bool
-    ensures { result ≡ is_record key.now value.now }
+fn is_key(key: &[u8]) -> bool
+    ensures { result ≡ is_key key.now }
 {
-    key.len() <= 65_535 && value.len() <= 16_777_215
+    key.len() <= 65_535
+}
+
+fn is_value(value: &[u8]) -> bool
+    ensures { result ≡ is_value value.now }
+{
+    value.len() <= 16_777_215
+}
+
+/// The operands among words, where no option is.
+fn operands_of(words: &[String]) -> Option<Operands<'_>>
+    ensures { MatchOption result (operands (words_of words.now) ≡ None) (λ o. operands (words_of words.now) ≡ Some (all_of o)) }
+{
+    for i in 0..words.len() {
+        let word = words[i].as_str();
+        if word == "--" {
+            return Some(Operands {
+                before: &words[..i],
+                behind: &words[i + 1..],
+            });
+        }
+        if is_option(word.as_bytes()) {
+            return None;
+        }
+    }
+    Some(Operands {
+        before: words,
+        behind: &[],
+    })
+}
+
+/// Two operands, of any bytes.
+#[tactic(auto, using(crate::proofs::WordSteps::length_all))]
+fn two_of(operands: Operands<'_>) -> Option<KeyOperands<'_>>
+    ensures { MatchOption result (length (all_of operands.entry) ≢ 2) (λ k. all_of operands.entry ≡ k.file.now ∷ k.key.now ∷ []) }
+{
+    match (operands.before, operands.behind) {
+        ([file, key], []) | ([file], [key]) | ([], [file, key]) => Some(KeyOperands {
+            file: file.as_str(),
+            key: key.as_str().as_bytes(),
+        }),
+        _ => None,
+    }
+}
+
+/// The operands of `get` and of `remove`.
+#[tactic(auto, using(crate::proofs::WordSteps::two_alone))]
+fn key_operands(operands: Operands<'_>) -> Option<KeyOperands<'_>>
+    ensures fits { IfSome result (λ k. length k.key.now < 2 ^ 16) }
+    ensures read { MatchOption result (key_words (all_of operands.entry) ≡ None) (λ k. key_words (all_of operands.entry) ≡ Some (key_said k)) }
+{
+    let asked = two_of(operands)?;
+    if is_hash_name(asked.file.as_bytes()) && is_key(asked.key) {
+        Some(asked)
+    } else {
+        None
+    }
+}
+
+/// Three operands, of any bytes.
+#[tactic(auto, using(crate::proofs::WordSteps::length_all))]
+fn three_of(operands: Operands<'_>) -> Option<SetOperands<'_>>
+    ensures { MatchOption result (length (all_of operands.entry) ≢ 3) (λ s. all_of operands.entry ≡ s.file.now ∷ s.key.now ∷ s.value.now ∷ []) }
+{
+    match (operands.before, operands.behind) {
+        ([file, key, value], [])
+        | ([file, key], [value])
+        | ([file], [key, value])
+        | ([], [file, key, value]) => Some(SetOperands {
+            file: file.as_str(),
+            key: key.as_str().as_bytes(),
+            value: value.as_str().as_bytes(),
+        }),
+        _ => None,
+    }
+}
+
+/// The operands of `set`.
+#[tactic(auto, using(crate::proofs::WordSteps::three_alone))]
+fn set_operands(operands: Operands<'_>) -> Option<SetOperands<'_>>
+    ensures fits { IfSome result (λ s. (length s.key.now < 2 ^ 16) × (length s.value.now ≤ 16777215)) }
+    ensures read { MatchOption result (set_words (all_of operands.entry) ≡ None) (λ s. set_words (all_of operands.entry) ≡ Some (set_said s)) }
+{
+    let asked = three_of(operands)?;
+    if is_hash_name(asked.file.as_bytes()) && is_key(asked.key) && is_value(asked.value) {
+        Some(asked)
+    } else {
+        None
+    }
 }
 
 /// Reads the words of a command.
-pub(crate) fn read_words(words: &[String]) -> Option<SetOperands<'_>>
-    ensures fits { IfSome result (λ s. (length s.key.now < 2 ^ 16) × (length s.value.now ≤ 16777215)) }
-    ensures read { MatchOption result (command_of (words_of words.now) ≡ None)
-        (λ s. command_of (words_of words.now) ≡ Some (Set (record { file = s.file.now; key = s.key.now; value = s.value.now }))) }
+pub(crate) fn read_words(words: &[String]) -> Option<Asked<'_>>
+    ensures fits { IfSome result IsWithin }
+    ensures read { MatchOption result (command_of (words_of words.now) ≡ None) (λ a. command_of (words_of words.now) ≡ Some (said a)) }
 {
-    let [command, file, key, value] = words else {
-        return None;
-    };
-    let (command, file) = (command.as_str(), file.as_str());
-    let (key, value) = (key.as_str().as_bytes(), value.as_str().as_bytes());
-    if command == "set"
-        && !is_option(file.as_bytes())
-        && !is_option(key)
-        && !is_option(value)
-        && is_hash_name(file.as_bytes())
-        && is_record(key, value)
-    {
-        Some(SetOperands { file, key, value })
-    } else {
-        None
+    let (command, words) = words.split_first()?;
+    let operands = operands_of(words)?;
+    match command.as_str() {
+        "get" => Some(Asked::Get(key_operands(operands)?)),
+        "set" => Some(Asked::Set(set_operands(operands)?)),
+        "remove" => Some(Asked::Remove(key_operands(operands)?)),
+        _ => None,
     }
 }

@@ -1,0 +1,62 @@
+use crate::tests::words;
+use crate::words::{Asked, KeyOperands, SetOperands, read_words};
+use std::test::Fail;
+
+#[test]
+fn get_has_a_file_and_a_key(rt: HostRuntime) -> Result<(), Fail> {
+    let get = words(rt.alloc(), &["get", "x.tkh", "a"])?;
+    let operands = KeyOperands {
+        file: "x.tkh",
+        key: b"a",
+    };
+    assert_eq!(rt; read_words(&get), Some(Asked::Get(operands)));
+    Ok(())
+}
+
+#[test]
+fn set_has_a_value_too(rt: HostRuntime) -> Result<(), Fail> {
+    let set = words(rt.alloc(), &["set", "x.tkh", "a", "1"])?;
+    let operands = SetOperands {
+        file: "x.tkh",
+        key: b"a",
+        value: b"1",
+    };
+    assert_eq!(rt; read_words(&set), Some(Asked::Set(operands)));
+    Ok(())
+}
+
+#[test]
+fn remove_has_a_file_and_a_key(rt: HostRuntime) -> Result<(), Fail> {
+    let remove = words(rt.alloc(), &["remove", "x.tkh", "a"])?;
+    let operands = KeyOperands {
+        file: "x.tkh",
+        key: b"a",
+    };
+    assert_eq!(rt; read_words(&remove), Some(Asked::Remove(operands)));
+    Ok(())
+}
+
+#[test]
+fn a_key_behind_the_end_of_options(rt: HostRuntime) -> Result<(), Fail> {
+    let get = words(rt.alloc(), &["get", "x.tkh", "--", "-k"])?;
+    let operands = KeyOperands {
+        file: "x.tkh",
+        key: b"-k",
+    };
+    assert_eq!(rt; read_words(&get), Some(Asked::Get(operands)));
+    Ok(())
+}
+
+#[test]
+fn an_unknown_option(rt: HostRuntime) -> Result<(), Fail> {
+    let get = words(rt.alloc(), &["get", "x.tkh", "a", "--fast"])?;
+    assert!(rt; read_words(&get).is_none());
+    Ok(())
+}
+
+#[test]
+fn too_few_operands(rt: HostRuntime) -> Result<(), Fail> {
+    let set = words(rt.alloc(), &["set", "x.tkh", "a"])?;
+    assert!(rt; read_words(&set).is_none());
+    Ok(())
+}
