@@ -1,5 +1,9 @@
+pub mod Endings
 pub mod Names
 pub mod PlainLoops
 pub mod PlainSteps
+pub mod Printing
 pub mod PutGroup
+pub mod Ready
+pub mod Replies
 pub mod WordSteps

@@ -1,10 +1,10 @@
 -- What a call on a file did, by its answer.
-use Rattle.std.specs.Prelude.{◌≡◌, ◌≢◌, ℕ, List, [], Bool, Option, Some, None, Result, Ok, Err}
+use Rattle.std.specs.Prelude.{◌≡◌, ℕ, List, Bool, true, false, Option, Some, Result, Ok, Err}
 use Rattle.tk_status.specs.declared.Status.{Status}
 use Rattle.tk_util.specs.Calls.{Holds, passes, called_file, RefusedAt}
 use Rattle.tk_proc.specs.Replies.{Reply, get_reply}
 use Rattle.tk_status.specs.declared.finish.Finish.{Finish}
-use Rattle.tk_disk.specs.Folder.{or_empty}
+use Rattle.tk_disk.specs.Folder.{or_empty, SameBut}
 use Rattle.tk_util.specs.Words.{KeyWords}
 use Rattle.tk_util.specs.Ran.{value_in, reply_changes, RanCall}
 use Rattle.tk_util.specs.declared.call.Stop.{Stop}
@@ -29,6 +29,11 @@ CallDone writable reply key f after (Err stops.Full) = IsFull writable reply key
 CallDone writable reply key f after (Err stops.Fault) = Unit {0}
 CallDone writable reply key f after (Err stops.NoMemory) = after ≡ Some f
 
+-- the answer of a processor's call, with the status of its reply
+abbrev pub with_status : Result Status Stop → Status → Result Status Stop
+with_status (Ok s) status = Ok status
+with_status (Err stop) status = Err stop
+
 -- an empty file is neither refused nor too long
 abbrev pub FreshAnswer : Result Status Stop → Type 0
 FreshAnswer (Ok status) = Unit {0}
@@ -37,8 +42,9 @@ FreshAnswer (Err stops.Full) = ⊥
 FreshAnswer (Err stops.Fault) = Unit {0}
 FreshAnswer (Err stops.NoMemory) = Unit {0}
 
--- `get`, as far as the value: no file changes, and the value is that of the file
+-- `get`, as far as the value: the value is that of the file, which stays
 pub record LookedUp (c : KeyWords) (before after : List ℕ → Option (List ℕ)) (value : Option (List ℕ)) (finish : Finish) : Type 0 where
   pub call : RanCall false get_reply c.key (before c.file) (after c.file) finish
-  pub files : (name : List ℕ) → after name ≡ before name
+  pub others : SameBut c.file before after
+  pub kept : finish.status ≡ 0 → after c.file ≡ before c.file
   pub found : finish.status ≡ 0 → (h : Holds false (or_empty (before c.file))) × (value ≡ value_in h.groups c.key)

@@ -62,13 +62,12 @@ pub(crate) fn run_call<D: Disk, P: RecordProcessor>(
     requires key { length key.now ≤ 65535 }
     requires may { ((was : Option (List ℕ)) → P.acts p.old key.now was ≡ Keep) ⊎ (writable ≡ true) }
     ensures made { IfSome (D.image disk) (λ f. IfOk result.answer (Made P.acts P.turns writable f key.now p.old p.new (D.image result.disk))) }
-    ensures no_room { IfSome (D.image disk) (λ f. result.answer ≡ Err Stop.Full → NoRoom P.acts writable f key.now p.old (D.image result.disk)) }
+    ensures no_room { IfSome (D.image disk) (λ f. result.answer ≡ Err Stop.Full → NoRoom P.acts P.turns writable f key.now p.old (D.image result.disk)) }
     ensures refused { IfSome (D.image disk) (λ f. (place : ℕ) → result.answer ≡ Err (Stop.Refused place) → RefusedAt writable f place × (D.image result.disk ≡ Some f)) }
     ensures no_memory { IfSome (D.image disk) (λ f. result.answer ≡ Err Stop.NoMemory → D.image result.disk ≡ Some f) }
     ensures later { D.fault_count disk ≤ D.fault_count result.disk }
     ensures fault { result.answer ≡ Err Stop.Fault → Rose (D.fault_count disk) (D.fault_count result.disk) }
 {
-    let _ = (alloc, writable, key, p);
     Called {
         disk,
         answer: Err(Stop::NoMemory),

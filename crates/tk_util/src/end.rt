@@ -2,6 +2,7 @@
 ghost use Rattle.std.specs.Prelude.{◌≡◌, ◌≢◌, ◌⊎◌, ◌≤◌, ◌++◌, ◌∷◌, ℕ, List, [], OnOk, OnErr, IsErrOf, Option};
 ghost use Rattle.std.specs.Io.KnownBytes.{Appends};
 ghost use Rattle.tk_io.specs.Streams.{AppendsFront, HasCause};
+ghost use Rattle.tk_util.specs.Done.{with_status};
 ghost use Rattle.tk_util.specs.Ends.{call_end};
 
 use crate::call::Stop;
@@ -25,12 +26,24 @@ pub(crate) fn end_of(answer: Result<Status, Stop>, given: Result<(), DiskError>)
     }
 }
 
+/// The answer of a processor's call, with the status of its reply.
+pub(crate) fn with_status(answer: Result<Status, Stop>, status: Status) -> Result<Status, Stop>
+    ensures { result ≡ with_status answer status }
+{
+    match answer {
+        Ok(_) => Ok(status),
+        Err(stop) => Err(stop),
+    }
+}
+
 /// Prints a value as a line.
 pub(crate) fn print<W: Sink>(out: &mut W, value: &[u8]) -> Result<(), IoError>
     ensures ok { OnOk result (Appends (W.held out.old) (W.held out.new) (value.now ++ 10 ∷ [])) }
     ensures err { OnErr result (AppendsFront (W.held out.old) (W.held out.new) (value.now ++ 10 ∷ [])) }
     ensures cause { HasCause (W.fault_count out.old) (W.fault_count out.new) result }
 {
-    out.write_all(value)?;
-    out.write_all(b"\n")
+    match out.write_all(value) {
+        Ok(()) => out.write_all(b"\n"),
+        Err(error) => Err(error),
+    }
 }

@@ -8,7 +8,7 @@ ghost use Rattle.tk_util.specs.Done.{CallDone, IsMade, LookedUp};
 ghost use Rattle.tk_util.specs.Ran.{RanGet, RanRemove, IsRunStatus, IsEnd};
 
 use crate::call::{Called, Stop, run_call};
-use crate::end::{end_of, print};
+use crate::end::{end_of, print, with_status};
 use crate::words::KeyOperands;
 use std::alloc::Global;
 use tk_disk::{Disk, DiskError, Folder};
@@ -26,10 +26,7 @@ fn get_from<D: Disk>(alloc: Global, disk: D, key: &[u8], getter: &mut Getter) ->
     ensures fault { result.answer ≡ Err Stop.Fault → Rose (D.fault_count disk) (D.fault_count result.disk) }
 {
     let Called { disk, answer } = run_call(alloc, disk, false, key, getter);
-    let answer = match answer {
-        Ok(_) => Ok(getter.status()),
-        Err(stop) => Err(stop),
-    };
+    let answer = with_status(answer, getter.status());
     Called { disk, answer }
 }
 
@@ -42,10 +39,7 @@ fn remove_from<D: Disk>(alloc: Global, disk: D, key: &[u8]) -> Called<D>
 {
     let mut remover = Remover::new();
     let Called { disk, answer } = run_call(alloc, disk, true, key, &mut remover);
-    let answer = match answer {
-        Ok(_) => Ok(remover.status()),
-        Err(stop) => Err(stop),
-    };
+    let answer = with_status(answer, remover.status());
     Called { disk, answer }
 }
 

@@ -9,7 +9,7 @@ ghost use Rattle.tk_util.specs.Done.{CallDone, FreshAnswer};
 ghost use Rattle.tk_util.specs.Ran.{RanSet, new_head, set_text, IsRunStatus, IsEnd};
 
 use crate::call::{Called, Stop, run_call};
-use crate::end::end_of;
+use crate::end::{end_of, with_status};
 use crate::words::SetOperands;
 use std::alloc::Global;
 use tk_append::write_fresh;
@@ -79,7 +79,9 @@ fn set_more<D: Disk>(alloc: Global, disk: D, key: &[u8], value: &[u8]) -> Called
         };
     };
     let mut setter = Setter::new(value);
-    run_call(alloc, disk, true, key, &mut setter)
+    let Called { disk, answer } = run_call(alloc, disk, true, key, &mut setter);
+    let answer = with_status(answer, setter.status());
+    Called { disk, answer }
 }
 
 /// Sets a key in a file, which may be empty.
@@ -96,7 +98,7 @@ fn set_on<D: Disk>(
     ensures fresh { IfSome (D.image disk) (λ f. f ≡ [] → OnOk result.answer (D.image result.disk ≡ Some (set_text key.now value.now))) }
     ensures fresh_ends { IfSome (D.image disk) (λ f. f ≡ [] → FreshAnswer result.answer) }
     ensures more { IfSome (D.image disk) (λ f. f ≢ [] → CallDone true (set_reply value.now true) key.now f (D.image result.disk) result.answer) }
-    ensures no_memory { result.answer ≡ Err Stop.NoMemory → D.image result.disk ≡ D.image disk }
+    ensures no_memory { IfSome (D.image disk) (λ f. result.answer ≡ Err Stop.NoMemory → D.image result.disk ≡ Some f) }
     ensures later { D.fault_count disk ≤ D.fault_count result.disk }
     ensures fault { result.answer ≡ Err Stop.Fault → Rose (D.fault_count disk) (D.fault_count result.disk) }
 {

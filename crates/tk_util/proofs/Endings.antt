@@ -1,0 +1,149 @@
+-- How a command ends, by its call and by giving its disk back.
+use Rattle.std.proofs.Common.{◌≡◌, ◌≢◌, ℕ, Bool, true, false, List, [], refl, sym, ◌∙◌, ap, subst, inl, inr, if◌then◌else◌}
+use Rattle.std.specs.Prelude.{Option, Some, None, IsSome, IfSome, IfNone, OnSome, Result, Ok, Err, ◌⊎◌, ◌==◌}
+use Rattle.tk_disk.specs.Folder.{or_empty, SameBut}
+use Rattle.tk_disk.specs.declared.disk.DiskError.{DiskError}
+use Rattle.tk_status.specs.declared.Status.{Status}
+use Rattle.tk_status.specs.declared.finish.Finish.{Finish}
+use Rattle.tk_status.specs.Finish.{ended, refused_at, answered, ended_by}
+use Rattle.tk_status.specs.Statuses.{number_of}
+use Rattle.tk_proc.specs.Replies.{Reply}
+use Rattle.tk_util.specs.declared.call.Stop.{Stop}
+use Rattle.tk_util.specs.declared.call.Stop.TheVariants as stops
+use Rattle.tk_model.specs.declared.error.OpenError.TheVariants.{NotADatabase}
+use Rattle.tk_append.specs.Opening.{first_fault}
+use Rattle.tk_util.specs.Calls.{RefusedAt}
+use Rattle.tk_util.specs.Ran.{Replied, Filled, Refused, RanCall}
+use Rattle.tk_util.specs.Done.{IsMade, IsFull, CallDone}
+use Rattle.tk_util.specs.Ends.{call_end}
+
+pub from_none : {T : Type 0} {P : Type 0} (o : Option T) → o ≡ None → IfNone o P → P
+from_none {P = P} o is p = subst (λ x. IfNone x P) is p
+
+pub from_some : {T : Type 0} (P : T → Type 0) (o : Option T) (d : T) → o ≡ Some d → IfSome o P → P d
+from_some P o d is p = subst (λ x. IfSome x P) is p
+
+pub on_some : {T : Type 0} {P : Type 0} (o : Option T) (d : T) → o ≡ Some d → OnSome o P → P
+on_some {P = P} o d is p = subst (λ x. OnSome x P) is p
+
+pub two_names : {A : Type 0} (name : List ℕ) (a b c : List ℕ → A) → SameBut name a b → SameBut name b c → SameBut name a c
+two_names name a b c first second = λ m ne. second m ne ∙ first m ne
+
+pub there : (before : Option (List ℕ)) → IsSome before → before ≡ Some (or_empty before)
+there None some = absurd (cc some)
+there (Some f) some = refl
+
+pub has_bytes : (before : Option (List ℕ)) → or_empty before ≢ [] → before ≡ Some (or_empty before)
+has_bytes None some = absurd (some refl)
+has_bytes (Some f) some = refl
+
+by_number : (b : Bool) (n k : ℕ) → k ≢ 0 → k ≢ 6 → (if b then ended 0 else answered n).status ≡ k → ⊥
+by_number true n k zero six e = zero (sym e)
+by_number false n k zero six e = six (sym e)
+
+-- a call's status ends with 0 or 6
+other_status : (s : Status) (finish : Finish) (k : ℕ) → k ≢ 0 → k ≢ 6 → finish ≡ ended_by s → finish.status ≡ k → ⊥
+other_status s finish k zero six is e = by_number (number_of s == 0) (number_of s) k zero six (ap (λ (x : Finish). x.status) (sym is) ∙ e)
+
+-- a finish of another status
+not_status : (finish other : Finish) (k : ℕ) → finish ≡ other → other.status ≢ k → finish.status ≡ k → ⊥
+not_status finish other k is ne e = ne (ap (λ (x : Finish). x.status) (sym is) ∙ e)
+
+module _ (writable : Bool) (reply : Option (List ℕ) → Reply) (key : List ℕ) (before after o1 : Option (List ℕ)) (finish : Finish) (some : before ≡ Some (or_empty before)) (given_is : after ≡ o1) where
+  replied : (was : Option (List ℕ)) (s : Status) → IsMade writable reply key (or_empty before) o1 was → s ≡ (reply was).status → finish ≡ ended_by s → Replied writable reply key (or_empty before) after finish
+  replied was s m e is = record {
+    holds = m.holds;
+    ends = is ∙ ap ended_by (e ∙ ap (λ (w : Option (List ℕ)). (reply w).status) m.was_is);
+    room = m.room;
+    after_is = given_is ∙ m.after_is;
+  }
+
+  -- one that ended with a fault
+  fault_end : finish ≡ ended 4 → RanCall writable reply key before after finish
+  fault_end is = record {
+    done = λ e. absurd (not_status finish (ended 4) 0 is (λ h. cc h) e);
+    answers = λ e. absurd (not_status finish (ended 4) 6 is (λ h. cc h) e);
+    refused = λ e. absurd (not_status finish (ended 4) 3 is (λ h. cc h) e);
+    no_memory = λ e. absurd (not_status finish (ended 4) 5 is (λ h. cc h) e);
+  }
+
+  pub ran : (answer : Result Status Stop) (given : Result (Unit {0}) DiskError) → CallDone writable reply key (or_empty before) o1 answer → finish ≡ call_end answer given → RanCall writable reply key before after finish
+  ran (Ok s) (Ok g) done is =
+      let r = replied done.0 s done.1 done.2 is in
+      record {
+        done = λ e. r;
+        answers = λ e. inl r;
+        refused = λ e. absurd (other_status s finish 3 (λ h. cc h) (λ h. cc h) is e);
+        no_memory = λ e. absurd (other_status s finish 5 (λ h. cc h) (λ h. cc h) is e);
+      }
+  ran (Ok s) (Err e) done is = fault_end is
+  ran (Err (stops.Refused place)) given done is = record {
+    done = λ e. absurd (not_status finish (refused_at 0 place) 0 is (λ h. cc h) e);
+    answers = λ e. absurd (not_status finish (refused_at 0 place) 6 is (λ h. cc h) e);
+    refused = λ e. record {
+      at = subst (λ (n : ℕ). RefusedAt writable (or_empty before) n) (sym (ap (λ (x : Finish). x.place) is)) done.0;
+      ends = is ∙ ap (λ (n : ℕ). refused_at 0 n) (sym (ap (λ (x : Finish). x.place) is));
+      after_is = given_is ∙ done.1 ∙ sym some;
+    };
+    no_memory = λ e. absurd (not_status finish (refused_at 0 place) 5 is (λ h. cc h) e);
+  }
+  ran (Err stops.Full) (Ok g) done is = record {
+    done = λ e. absurd (not_status finish (answered 21) 0 is (λ h. cc h) e);
+    answers = λ e. inr (record { holds = done.holds; ends = is; full = done.full; after_is = given_is ∙ done.after_is });
+    refused = λ e. absurd (not_status finish (answered 21) 3 is (λ h. cc h) e);
+    no_memory = λ e. absurd (not_status finish (answered 21) 5 is (λ h. cc h) e);
+  }
+  ran (Err stops.Full) (Err e) done is = fault_end is
+  ran (Err stops.Fault) given done is = fault_end is
+  ran (Err stops.NoMemory) (Ok g) done is = record {
+    done = λ e. absurd (not_status finish (ended 5) 0 is (λ h. cc h) e);
+    answers = λ e. absurd (not_status finish (ended 5) 6 is (λ h. cc h) e);
+    refused = λ e. absurd (not_status finish (ended 5) 3 is (λ h. cc h) e);
+    no_memory = λ e. given_is ∙ done ∙ sym some;
+  }
+  ran (Err stops.NoMemory) (Err e) done is = fault_end is
+
+told_call : (o0 : Option (List ℕ)) (f : List ℕ) (P : List ℕ → Type 0) → o0 ≡ Some f → IfSome o0 P → P f
+told_call None f P is p = absurd (cc)
+told_call (Some g) f P is p = subst P (cc is) p
+
+-- a call on a disk that tells its bytes
+pub ran_call : (writable : Bool) (reply : Option (List ℕ) → Reply) (key : List ℕ) (before after o0 o1 : Option (List ℕ)) (answer : Result Status Stop) (given : Result (Unit {0}) DiskError) (finish : Finish)
+    → before ≡ Some (or_empty before) → o0 ≡ Some (or_empty before) → IfSome o0 (λ f. CallDone writable reply key f o1 answer) → after ≡ o1 → finish ≡ call_end answer given → RanCall writable reply key before after finish
+ran_call writable reply key before after o0 o1 answer given finish some taken call back is =
+    ran writable reply key before after o1 finish some back answer given (told_call o0 (or_empty before) (λ f. CallDone writable reply key f o1 answer) taken call) is
+
+-- an absent file is refused
+pub ran_absent : (writable : Bool) (reply : Option (List ℕ) → Reply) (key : List ℕ) (before after : Option (List ℕ)) (finish : Finish) → RefusedAt writable [] 0 → before ≡ None → after ≡ before → finish ≡ refused_at 0 0 → RanCall writable reply key before after finish
+ran_absent writable reply key before after finish at none same is =
+    let empty : [] ≡ or_empty before = ap or_empty (sym none) in
+    record {
+      done = λ e. absurd (not_status finish (refused_at 0 0) 0 is (λ h. cc h) e);
+      answers = λ e. absurd (not_status finish (refused_at 0 0) 6 is (λ h. cc h) e);
+      refused = λ e. record {
+        at = subst (λ (f : List ℕ). RefusedAt writable f finish.place) empty (subst (λ (n : ℕ). RefusedAt writable [] n) (sym (ap (λ (x : Finish). x.place) is)) at);
+        ends = is ∙ ap (λ (n : ℕ). refused_at 0 n) (sym (ap (λ (x : Finish). x.place) is));
+        after_is = same;
+      };
+      no_memory = λ e. absurd (not_status finish (refused_at 0 0) 5 is (λ h. cc h) e);
+    }
+
+-- nothing was done, for a fault or want of memory
+pub ran_stopped : (writable : Bool) (reply : Option (List ℕ) → Reply) (key : List ℕ) (before after : Option (List ℕ)) (finish : Finish) → (finish ≡ ended 4) ⊎ (finish ≡ ended 5) → after ≡ before → RanCall writable reply key before after finish
+ran_stopped writable reply key before after finish (inl is) same = record {
+  done = λ e. absurd (not_status finish (ended 4) 0 is (λ h. cc h) e);
+  answers = λ e. absurd (not_status finish (ended 4) 6 is (λ h. cc h) e);
+  refused = λ e. absurd (not_status finish (ended 4) 3 is (λ h. cc h) e);
+  no_memory = λ e. same;
+}
+ran_stopped writable reply key before after finish (inr is) same = record {
+  done = λ e. absurd (not_status finish (ended 5) 0 is (λ h. cc h) e);
+  answers = λ e. absurd (not_status finish (ended 5) 6 is (λ h. cc h) e);
+  refused = λ e. absurd (not_status finish (ended 5) 3 is (λ h. cc h) e);
+  no_memory = λ e. same;
+}
+
+-- an empty file has no header
+pub empty_refused : (writable : Bool) → RefusedAt writable [] 0
+unfolding first_fault
+empty_refused writable = record { cause = NotADatabase; fault = refl; place_is = refl }

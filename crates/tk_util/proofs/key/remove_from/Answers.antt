@@ -1,0 +1,11 @@
+use Rattle.std.proofs.Common.{◌≡◌, ℕ, List, refl, sym, ◌∙◌, ap}
+use Rattle.tk_proc.specs.Replies.{remove_reply}
+use Rattle.tk_util.proofs.Ready.{remove_fits}
+use Rattle.tk_util.proofs.Replies.{called_done}
+use Rattle.tk_util.proofs.key.remove_from.Goals as goal
+
+pub returns-clause-call : goal.returns-clause-call
+returns-clause-call g c =
+    called_done _ _ remove_reply _ _ (λ was. refl) remove_fits _ _ _ _ _ _ _
+    c.run_call-disk.ensures.made c.run_call-disk.ensures.no_room c.run_call-disk.ensures.refused c.run_call-disk.ensures.no_memory
+    (λ was new. c.status.ensures was (sym new)) c.with_status-answer.ensures

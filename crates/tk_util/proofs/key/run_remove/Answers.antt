@@ -1,0 +1,20 @@
+use Rattle.std.proofs.Common.{◌≡◌, refl, sym, ◌∙◌}
+use Rattle.tk_util.proofs.Endings.{ran_call, ran_absent, empty_refused, there, from_none, from_some, on_some, two_names}
+use Rattle.tk_util.proofs.key.run_remove.Goals as goal
+
+pub returns-in-Ok-None-clause-ran : goal.returns-in-Ok-None-clause-ran
+returns-in-Ok-None-clause-ran g c = λ left held tells. record {
+  call = ran_absent _ _ _ _ _ _ (empty_refused _) ((from_none _ c.in-Ok-None.field-0-is c.in-Ok-None.ensures.absent).1 tells) (from_none _ c.in-Ok-None.field-0-is c.in-Ok-None.ensures.none_same) c.refused.ensures;
+  only = record { others = c.take.ensures.others; left = refl; held = refl };
+}
+
+pub returns-clause-ran : goal.returns-clause-ran
+returns-clause-ran g c = λ left held tells. record {
+  call = ran_call _ _ _ _ _ _ _ _ _ _
+  (there _ (on_some _ _ c.in-Ok-Some.field-0-is c.in-Ok-Some.ensures.there refl tells))
+  (from_some _ _ _ c.in-Ok-Some.field-0-is c.in-Ok-Some.ensures.image tells)
+  c.remove_from-disk.ensures.call
+  (c.give-given.ensures.here (c.take.ensures.tells ∙ tells))
+  c.end_of.ensures;
+  only = record { others = two_names _ _ _ _ c.take.ensures.others c.give-given.ensures.others; left = refl; held = refl };
+}
