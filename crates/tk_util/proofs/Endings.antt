@@ -1,19 +1,19 @@
 -- How a command ends, by its call and by giving its disk back.
 use Rattle.std.proofs.Common.{◌≡◌, ◌≢◌, ℕ, Bool, true, false, List, [], refl, sym, ◌∙◌, ap, subst, inl, inr, if◌then◌else◌}
-use Rattle.std.specs.Prelude.{Option, Some, None, IsSome, IfSome, IfNone, OnSome, Result, Ok, Err, ◌⊎◌, ◌==◌}
+use Rattle.std.specs.Prelude.{Option, Some, None, IsSome, IfSome, IfNone, OnSome, IfOk, Result, Ok, Err, ◌⊎◌, ◌==◌}
 use Rattle.tk_disk.specs.Folder.{or_empty, SameBut}
 use Rattle.tk_disk.specs.declared.disk.DiskError.{DiskError}
 use Rattle.tk_status.specs.declared.Status.{Status}
 use Rattle.tk_status.specs.declared.finish.Finish.{Finish}
 use Rattle.tk_status.specs.Finish.{ended, refused_at, answered, ended_by}
 use Rattle.tk_status.specs.Statuses.{number_of}
-use Rattle.tk_proc.specs.Replies.{Reply}
+use Rattle.tk_proc.specs.Replies.{Reply, get_reply}
 use Rattle.tk_util.specs.declared.call.Stop.{Stop}
 use Rattle.tk_util.specs.declared.call.Stop.TheVariants as stops
 use Rattle.tk_model.specs.declared.error.OpenError.TheVariants.{NotADatabase}
 use Rattle.tk_append.specs.Opening.{first_fault}
-use Rattle.tk_util.specs.Calls.{RefusedAt}
-use Rattle.tk_util.specs.Ran.{Replied, Filled, Refused, RanCall}
+use Rattle.tk_util.specs.Calls.{RefusedAt, Holds}
+use Rattle.tk_util.specs.Ran.{Replied, Filled, Refused, RanCall, value_in}
 use Rattle.tk_util.specs.Done.{IsMade, IsFull, CallDone}
 use Rattle.tk_util.specs.Ends.{call_end}
 
@@ -42,11 +42,11 @@ by_number true n k zero six e = zero (sym e)
 by_number false n k zero six e = six (sym e)
 
 -- a call's status ends with 0 or 6
-other_status : (s : Status) (finish : Finish) (k : ℕ) → k ≢ 0 → k ≢ 6 → finish ≡ ended_by s → finish.status ≡ k → ⊥
+pub other_status : (s : Status) (finish : Finish) (k : ℕ) → k ≢ 0 → k ≢ 6 → finish ≡ ended_by s → finish.status ≡ k → ⊥
 other_status s finish k zero six is e = by_number (number_of s == 0) (number_of s) k zero six (ap (λ (x : Finish). x.status) (sym is) ∙ e)
 
 -- a finish of another status
-not_status : (finish other : Finish) (k : ℕ) → finish ≡ other → other.status ≢ k → finish.status ≡ k → ⊥
+pub not_status : (finish other : Finish) (k : ℕ) → finish ≡ other → other.status ≢ k → finish.status ≡ k → ⊥
 not_status finish other k is ne e = ne (ap (λ (x : Finish). x.status) (sym is) ∙ e)
 
 module _ (writable : Bool) (reply : Option (List ℕ) → Reply) (key : List ℕ) (before after o1 : Option (List ℕ)) (finish : Finish) (some : before ≡ Some (or_empty before)) (given_is : after ≡ o1) where
@@ -103,7 +103,7 @@ module _ (writable : Bool) (reply : Option (List ℕ) → Reply) (key : List ℕ
   }
   ran (Err stops.NoMemory) (Err e) done is = fault_end is
 
-told_call : (o0 : Option (List ℕ)) (f : List ℕ) (P : List ℕ → Type 0) → o0 ≡ Some f → IfSome o0 P → P f
+pub told_call : (o0 : Option (List ℕ)) (f : List ℕ) (P : List ℕ → Type 0) → o0 ≡ Some f → IfSome o0 P → P f
 told_call None f P is p = absurd (cc)
 told_call (Some g) f P is p = subst P (cc is) p
 
@@ -147,3 +147,34 @@ ran_stopped writable reply key before after finish (inr is) same = record {
 pub empty_refused : (writable : Bool) → RefusedAt writable [] 0
 unfolding first_fault
 empty_refused writable = record { cause = NotADatabase; fault = refl; place_is = refl }
+
+found_in : (key : List ℕ) (reply : Option (List ℕ) → Reply) (f : List ℕ) (o1 value : Option (List ℕ)) (answer : Result Status Stop) (given : Result (Unit {0}) DiskError) (finish : Finish)
+    → IfOk answer (λ s. IsMade false reply key f o1 value) → finish ≡ call_end answer given → finish.status ≡ 0 → (h : Holds false f) × (value ≡ value_in h.groups key)
+found_in key reply f o1 value (Ok s) given finish made is e = (made.holds, made.was_is)
+found_in key reply f o1 value (Err (stops.Refused place)) given finish made is e = absurd (not_status finish (refused_at 0 place) 0 is (λ h. cc h) e)
+found_in key reply f o1 value (Err stops.Full) (Ok g) finish made is e = absurd (not_status finish (answered 21) 0 is (λ h. cc h) e)
+found_in key reply f o1 value (Err stops.Full) (Err x) finish made is e = absurd (not_status finish (ended 4) 0 is (λ h. cc h) e)
+found_in key reply f o1 value (Err stops.Fault) given finish made is e = absurd (not_status finish (ended 4) 0 is (λ h. cc h) e)
+found_in key reply f o1 value (Err stops.NoMemory) (Ok g) finish made is e = absurd (not_status finish (ended 5) 0 is (λ h. cc h) e)
+found_in key reply f o1 value (Err stops.NoMemory) (Err x) finish made is e = absurd (not_status finish (ended 4) 0 is (λ h. cc h) e)
+
+pub found_call : (key : List ℕ) (reply : Option (List ℕ) → Reply) (f : List ℕ) (o0 o1 value : Option (List ℕ)) (answer : Result Status Stop) (given : Result (Unit {0}) DiskError) (finish : Finish)
+    → o0 ≡ Some f → IfSome o0 (λ f. IfOk answer (λ s. IsMade false reply key f o1 value)) → finish ≡ call_end answer given → finish.status ≡ 0 → (h : Holds false f) × (value ≡ value_in h.groups key)
+found_call key reply f o0 o1 value answer given finish taken made is e =
+    found_in key reply f o1 value answer given finish (told_call o0 f (λ f. IfOk answer (λ s. IsMade false reply key f o1 value)) taken made) is e
+
+-- a file that was only read stays
+pub kept_call : (reply : Option (List ℕ) → Reply) (key : List ℕ) (before after : Option (List ℕ)) (finish : Finish) → before ≡ Some (or_empty before) → RanCall false reply key before after finish → finish.status ≡ 0 → after ≡ before
+kept_call reply key before after finish some call e = let r = call.done e in r.after_is ∙ ap (λ (f : List ℕ). Some f) (sym r.holds.file) ∙ sym some
+
+-- a status of success comes of a value
+pub value_there : (value : Option (List ℕ)) (answer : Result Status Stop) (given : Result (Unit {0}) DiskError) (finish : Finish) → IfOk answer (λ s. s ≡ (get_reply value).status) → finish ≡ call_end answer given → finish.status ≡ 0 → IsSome value
+value_there (Some v) answer given finish is ends e = refl
+value_there None (Ok s) (Ok g) finish is ends e = absurd (not_status finish (answered 7) 0 (ends ∙ ap ended_by is) (λ h. cc h) e)
+value_there None (Ok s) (Err x) finish is ends e = absurd (not_status finish (ended 4) 0 ends (λ h. cc h) e)
+value_there None (Err (stops.Refused place)) given finish is ends e = absurd (not_status finish (refused_at 0 place) 0 ends (λ h. cc h) e)
+value_there None (Err stops.Full) (Ok g) finish is ends e = absurd (not_status finish (answered 21) 0 ends (λ h. cc h) e)
+value_there None (Err stops.Full) (Err x) finish is ends e = absurd (not_status finish (ended 4) 0 ends (λ h. cc h) e)
+value_there None (Err stops.Fault) given finish is ends e = absurd (not_status finish (ended 4) 0 ends (λ h. cc h) e)
+value_there None (Err stops.NoMemory) (Ok g) finish is ends e = absurd (not_status finish (ended 5) 0 ends (λ h. cc h) e)
+value_there None (Err stops.NoMemory) (Err x) finish is ends e = absurd (not_status finish (ended 4) 0 ends (λ h. cc h) e)

@@ -1,4 +1,5 @@
 pub mod Endings
+pub mod GetEndings
 pub mod Names
 pub mod PlainLoops
 pub mod PlainSteps
@@ -6,4 +7,6 @@ pub mod Printing
 pub mod PutGroup
 pub mod Ready
 pub mod Replies
+pub mod SameCommand
+pub mod SetEndings
 pub mod WordSteps

@@ -1,6 +1,7 @@
 -- What a call on a file did, by its answer.
 use Rattle.std.specs.Prelude.{◌≡◌, ℕ, List, Bool, true, false, Option, Some, Result, Ok, Err}
 use Rattle.tk_status.specs.declared.Status.{Status}
+use Rattle.tk_status.specs.declared.Status.TheVariants.{Success}
 use Rattle.tk_util.specs.Calls.{Holds, passes, called_file, RefusedAt}
 use Rattle.tk_proc.specs.Replies.{Reply, get_reply}
 use Rattle.tk_status.specs.declared.finish.Finish.{Finish}
@@ -34,9 +35,9 @@ abbrev pub with_status : Result Status Stop → Status → Result Status Stop
 with_status (Ok s) status = Ok status
 with_status (Err stop) status = Err stop
 
--- an empty file is neither refused nor too long
+-- a call on an empty file is neither refused nor too long
 abbrev pub FreshAnswer : Result Status Stop → Type 0
-FreshAnswer (Ok status) = Unit {0}
+FreshAnswer (Ok status) = status ≡ Success
 FreshAnswer (Err (stops.Refused place)) = ⊥
 FreshAnswer (Err stops.Full) = ⊥
 FreshAnswer (Err stops.Fault) = Unit {0}

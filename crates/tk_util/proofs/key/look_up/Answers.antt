@@ -1,0 +1,39 @@
+use Rattle.std.proofs.Common.{◌≡◌, refl, sym, ◌∙◌, inl, inr}
+use Rattle.tk_util.proofs.Endings.{ran_call, ran_absent, ran_stopped, empty_refused, there, from_none, from_some, on_some, two_names, found_call, kept_call, not_status}
+use Rattle.tk_util.proofs.key.look_up.Goals as goal
+
+pub returns-in-Ok-None-clause-ran : goal.returns-in-Ok-None-clause-ran
+returns-in-Ok-None-clause-ran g c = λ tells. record {
+  call = ran_absent _ _ _ _ _ _ (empty_refused _) ((from_none _ c.in-Ok-None.field-0-is c.in-Ok-None.ensures.absent).1 tells) (from_none _ c.in-Ok-None.field-0-is c.in-Ok-None.ensures.none_same) c.refused.ensures;
+  others = c.take.ensures.others;
+  kept = λ e. absurd (not_status _ _ 0 c.refused.ensures (λ h. cc h) e);
+  found = λ e. absurd (not_status _ _ 0 c.refused.ensures (λ h. cc h) e);
+}
+
+pub returns-in-Err-Fault-clause-ran : goal.returns-in-Err-Fault-clause-ran
+returns-in-Err-Fault-clause-ran g c = λ tells. record {
+  call = ran_stopped _ _ _ _ _ _ (inl c.with.ensures) c.in-Err-Fault.ensures.err_same;
+  others = c.take.ensures.others;
+  kept = λ e. absurd (not_status _ _ 0 c.with.ensures (λ h. cc h) e);
+  found = λ e. absurd (not_status _ _ 0 c.with.ensures (λ h. cc h) e);
+}
+
+pub returns-in-Err-NoMemory-clause-ran : goal.returns-in-Err-NoMemory-clause-ran
+returns-in-Err-NoMemory-clause-ran g c = λ tells. record {
+  call = ran_stopped _ _ _ _ _ _ (inr c.with-in-Err-NoMemory.ensures) c.in-Err-NoMemory.ensures.err_same;
+  others = c.take.ensures.others;
+  kept = λ e. absurd (not_status _ _ 0 c.with-in-Err-NoMemory.ensures (λ h. cc h) e);
+  found = λ e. absurd (not_status _ _ 0 c.with-in-Err-NoMemory.ensures (λ h. cc h) e);
+}
+
+pub returns-clause-ran : goal.returns-clause-ran
+returns-clause-ran g c = λ tells.
+    let some = there _ (on_some _ _ c.in-Ok-Some.field-0-is c.in-Ok-Some.ensures.there refl tells) in
+    let taken = from_some _ _ _ c.in-Ok-Some.field-0-is c.in-Ok-Some.ensures.image tells in
+    let call = ran_call _ _ _ _ _ _ _ _ _ _ some taken c.get_from-disk.ensures.call (c.give-given.ensures.here (c.take.ensures.tells ∙ tells)) c.end_of.ensures in
+    record {
+      call = call;
+      others = two_names _ _ _ _ c.take.ensures.others c.give-given.ensures.others;
+      kept = λ e. kept_call _ _ _ _ _ some call e;
+      found = λ e. found_call _ _ _ _ _ _ _ _ _ taken c.get_from-disk.ensures.value c.end_of.ensures e;
+    }

@@ -1,0 +1,15 @@
+use Rattle.std.proofs.Common.{◌≡◌, sym, ◌∙◌, ap}
+use Rattle.std.specs.Prelude.{Some}
+use Rattle.tk_util.specs.declared.words.Asked.{Asked}
+use Rattle.tk_util.specs.Asked.{said}
+use Rattle.tk_util.proofs.SameCommand.{same_command}
+use Rattle.tk_util.proofs.run.run_util.Goals as goal
+
+pub returns-in-Some-Get-clause-ran : goal.returns-in-Some-Get-clause-ran
+returns-in-Some-Get-clause-ran g c = λ d asked tells. same_command _ _ _ _ _ _ asked (c.in-Some-Get.ensures.read ∙ ap (λ (a : Asked). Some (said a)) c.in-Some-Get.field-0-is) (c.run_get.ensures.ran _ tells)
+
+pub returns-in-Some-Set-clause-ran : goal.returns-in-Some-Set-clause-ran
+returns-in-Some-Set-clause-ran g c = λ d asked tells. same_command _ _ _ _ _ _ asked (c.in-Some-Set.ensures.read ∙ ap (λ (a : Asked). Some (said a)) c.in-Some-Set.field-0-is) (c.run_set.ensures.ran _ _ tells)
+
+pub returns-in-Some-Remove-clause-ran : goal.returns-in-Some-Remove-clause-ran
+returns-in-Some-Remove-clause-ran g c = λ d asked tells. same_command _ _ _ _ _ _ asked (c.in-Some-Remove.ensures.read ∙ ap (λ (a : Asked). Some (said a)) c.in-Some-Remove.field-0-is) (c.run_remove.ensures.ran _ _ tells)
