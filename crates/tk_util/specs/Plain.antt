@@ -34,6 +34,11 @@ abbrev pub floor_of : (next : ℕ) → Option ℕ → ℕ
 floor_of next None = next
 floor_of next (Some n) = n + 1
 
+-- the moment of a store: 1 where its disk tells what it holds, which no call changes
+abbrev pub told_moment : (image : Option (List ℕ)) → ℕ
+told_moment None = 0
+told_moment (Some f) = 1
+
 module _ {D : Type 0} where
   -- the names that contracts call its parts
   abbrev pub plain_disk : PlainStore D → D
