@@ -1,4 +1,5 @@
 pub mod Names
 pub mod PlainLoops
+pub mod CallSteps
 pub mod PlainSteps
 pub mod PutGroup
