@@ -2,3 +2,4 @@ pub mod Names
 pub mod PlainLoops
 pub mod PlainSteps
 pub mod PutGroup
+pub mod PlainKeeps

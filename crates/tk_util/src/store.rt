@@ -1,9 +1,8 @@
 ghost use Rattle.std.specs.Prelude.{◌≡◌, IfOk, OnOk, true};
 ghost use Rattle.std.specs.Option.{option_copied};
 
-use crate::plain::{PlainStore, is_over, need_of, put_group, told};
+use crate::plain::{PlainStore, is_over, need_of, told};
 use std::alloc::Global;
-use tk_block::Closing;
 use tk_disk::Disk;
 use tk_model::{Bound, Bytes, ChangeList, NoMemory, Order, Pair};
 use tk_store::{SeqStore, StoreError};
@@ -148,14 +147,10 @@ impl<D: Disk> SeqStore for PlainStore<D> {
     }
 
     fn apply_reserved(&mut self, number: u64) -> Result<(), StoreError> {
-        let Some(staged) = self.staged.take() else {
-            return Ok(());
-        };
-        told(put_group(&mut self.log, number, staged.text.as_slice()))?;
-        self.records = staged.records;
-        self.heads = staged.heads;
-        self.last = Some(number);
-        Ok(())
+        match self.staged.take() {
+            Some(staged) => self.put_staged(number, staged),
+            None => Ok(()),
+        }
     }
 
     fn sync(&mut self, hard: bool) -> Result<(), StoreError> {
@@ -168,13 +163,7 @@ impl<D: Disk> SeqStore for PlainStore<D> {
     fn close(&mut self, next: u64) -> Result<(), StoreError> {
         self.closed = true;
         if self.writable {
-            let count = self.records.len() as u64;
-            told(self.log.close_log(count, next))?;
-            self.closing = Closing {
-                size: self.log.end(),
-                count,
-                next,
-            };
+            self.end_file(next)?;
         }
         Ok(())
     }
