@@ -3,3 +3,4 @@ pub mod PlainLoops
 pub mod CallSteps
 pub mod PlainSteps
 pub mod PutGroup
+pub mod PlainKeeps

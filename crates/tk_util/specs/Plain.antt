@@ -80,6 +80,7 @@ module _ {D : Type 0} where
 
   pub record PlainPrepared (s : PlainStore D) (cs : List Change) : Type 0 where
     pub fit : AllFit cs
+    pub may : s.writable ≡ false → cs ≡ []
     pub staged : MatchOption s.staged (cs ≡ []) (IsStaged s cs)
 
   pub record PlainStands (image : D → Option (List ℕ)) (s : PlainStore D) (first : First) (since : List Group) (hard : ℕ) : Type 0 where

@@ -6,7 +6,7 @@ ghost use Rattle.tk_model.specs.declared.record.Order.TheVariants.{Hash};
 ghost use Rattle.tk_model.specs.declared.record.Group.{Group};
 ghost use Rattle.tk_model.specs.declared.record.Change.{Change as Changed};
 ghost use Rattle.tk_disk.specs.Disk.{Rose, HasCause, put_at};
-ghost use Rattle.tk_store.specs.Store.{extent_of as change_extent, Groups, IsWhole, Keeps};
+ghost use Rattle.tk_store.specs.Store.{extent_of as change_extent, First, IsWhole, Keeps, OkOrFault, HasCause as StoreCause};
 ghost use Rattle.tk_block.specs.Text.{base_of};
 ghost use Rattle.tk_block.specs.Blocks.{group_bodies};
 ghost use Rattle.tk_block.specs.Layout.{group_text, end_of};
@@ -229,5 +229,50 @@ impl<D: Disk> PlainStore<D> {
             heads: plan.heads,
             text,
         })
+    }
+
+    /// Writes the group that was staged, under this number.
+    pub(crate) fn put_staged(&mut self, number: u64, staged: Staged) -> Result<(), StoreError>
+        requires whole { IsWhole (PlainStands D.image) self.old }
+        requires staged { (changes : List Changed) × IsStaged self.old changes staged }
+        ensures stands { (changes : List Changed) → IsStaged self.old changes staged → AllFit changes → (plain_nature self.old).writable ≡ true
+            → (first : First) (since : List Group) (hard : ℕ) → PlainStands D.image self.old first since hard
+            → OnOk result (PlainStands D.image self.new first (since ++ record { number = number; changes = changes } ∷ []) hard) }
+        ensures shown { OnOk result (plain_shown self.new ≡ record (plain_shown self.old) { map = Some staged.records; size = log_end self.new.log; floor = number + 1 }) }
+        ensures nature { plain_nature self.new ≡ plain_nature self.old }
+        ensures open { (plain_shown self.new).closed ≡ (plain_shown self.old).closed }
+        ensures taken { D.taken_count (plain_disk self.new) ≡ D.taken_count (plain_disk self.old) }
+        ensures cause { StoreCause (D.fault_count (plain_disk self.old)) (D.fault_count (plain_disk self.new)) result }
+        ensures answers { OkOrFault result }
+    {
+        told(put_group(&mut self.log, number, staged.text.as_slice()))?;
+        self.records = staged.records;
+        self.heads = staged.heads;
+        self.last = Some(number);
+        Ok(())
+    }
+
+    /// Makes it durable that the file is closed, with this next number.
+    pub(crate) fn end_file(&mut self, next: u64) -> Result<(), StoreError>
+        requires whole { IsWhole (PlainStands D.image) self.old }
+        ensures stands { (plain_nature self.old).writable ≡ true → (first : First) (since : List Group) (hard : ℕ) → PlainStands D.image self.old first since hard
+            → OnOk result (PlainStands D.image self.new first since (length since)) }
+        ensures file { (groups since : List Group) (hard : ℕ) → PlainStands D.image self.old (opening groups) since hard
+            → OnOk result (IfSome (D.image (plain_disk self.old)) (λ _. D.image (plain_disk self.new) ≡ Some (closed_text (plain_head self.old) (groups ++ since) next))) }
+        ensures told { is_some (D.image (plain_disk self.new)) ≡ is_some (D.image (plain_disk self.old)) }
+        ensures nature { plain_nature self.new ≡ plain_nature self.old }
+        ensures shown { plain_shown self.new ≡ plain_shown self.old }
+        ensures taken { D.taken_count (plain_disk self.new) ≡ D.taken_count (plain_disk self.old) }
+        ensures cause { StoreCause (D.fault_count (plain_disk self.old)) (D.fault_count (plain_disk self.new)) result }
+        ensures answers { OkOrFault result }
+    {
+        let count = self.records.len() as u64;
+        told(self.log.close_log(count, next))?;
+        self.closing = Closing {
+            size: self.log.end(),
+            count,
+            next,
+        };
+        Ok(())
     }
 }

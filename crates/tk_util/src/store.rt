@@ -5,9 +5,8 @@ ghost use Rattle.tk_append.specs.Log.{closed_text};
 ghost use Rattle.tk_store.specs.Store.{First, HasCause, IsWhole, NeverFull, made};
 ghost use Rattle.tk_util.specs.Plain.{PlainStands, opening, plain_disk, plain_head, plain_nature, plain_shown, told_moment};
 
-use crate::plain::{PlainStore, is_over, need_of, put_group, told};
+use crate::plain::{PlainStore, is_over, need_of, told};
 use std::alloc::Global;
-use tk_block::Closing;
 use tk_disk::Disk;
 use tk_model::{Bound, Bytes, ChangeList, NoMemory, Order, Pair};
 use tk_store::{SeqStore, StoreError};
@@ -152,14 +151,10 @@ impl<D: Disk> SeqStore for PlainStore<D> {
     }
 
     fn apply_reserved(&mut self, number: u64) -> Result<(), StoreError> {
-        let Some(staged) = self.staged.take() else {
-            return Ok(());
-        };
-        told(put_group(&mut self.log, number, staged.text.as_slice()))?;
-        self.records = staged.records;
-        self.heads = staged.heads;
-        self.last = Some(number);
-        Ok(())
+        match self.staged.take() {
+            Some(staged) => self.put_staged(number, staged),
+            None => Ok(()),
+        }
     }
 
     fn sync(&mut self, hard: bool) -> Result<(), StoreError> {
@@ -190,13 +185,7 @@ impl<D: Disk> SeqStore for PlainStore<D> {
     {
         self.closed = true;
         if self.writable {
-            let count = self.records.len() as u64;
-            told(self.log.close_log(count, next))?;
-            self.closing = Closing {
-                size: self.log.end(),
-                count,
-                next,
-            };
+            self.end_file(next)?;
         }
         Ok(())
     }
