@@ -1,26 +1,32 @@
 -- One call on a file: the file that it leaves, and the room for it.
-use Rattle.std.proofs.Common.{◌≡◌, ℕ, zero, suc, ◌+◌, ◌≤◌, ◌<◌, ◌-◌, ◌*◌, ◌^◌, Bool, true, false, List, [], ◌∷◌, ◌++◌, length, refl, sym, ◌∙◌, ap, subst, arith, if◌then◌else◌}
-use Rattle.std.specs.Prelude.{Option, Some, None, IfSome, slice_index, sum_by, nat_lt, not, ◌&&◌, ◌==◌, Result, Ok, Err, ◌⊎◌, min, max}
+use Rattle.std.proofs.Common.{◌≡◌, ℕ, ◌+◌, ◌≤◌, ◌^◌, Bool, true, false, inl, inr, List, [], ◌∷◌, ◌++◌, length, refl, sym, ◌∙◌, ap, subst, arith, if◌then◌else◌}
+use Rattle.std.specs.Prelude.{Option, Some, None, IfSome, slice_index, sum_by, nat_lt, ◌&&◌, Ok, Err, IsErrOf}
 use Rattle.std.proofs.lemmas.List.{append-nil}
+use Rattle.tk_status.specs.declared.Status.{Status}
+use Rattle.tk_model.specs.declared.record.Action.{Action}
+use Rattle.tk_model.specs.declared.record.Pair.{Pair}
 use Rattle.tk_model.specs.declared.record.Group.{Group}
 use Rattle.tk_model.specs.declared.record.Change.{Change}
 use Rattle.tk_model.specs.declared.record.Order.TheVariants.{Hash}
-use Rattle.tk_model.specs.Records.{replay}
+use Rattle.tk_model.specs.Records.{find, replay}
 use Rattle.tk_model.specs.Entries.{group_of}
+use Rattle.tk_proc.specs.Runs.{short_status}
 use Rattle.tk_block.specs.declared.head.StaticHead.{StaticHead}
-use Rattle.tk_block.specs.declared.closing.Closing.{Closing}
 use Rattle.tk_block.specs.Text.{static_text, static_front, closing_text, base_of}
 use Rattle.tk_block.specs.Layout.{laid, links_of, end_of, texts, bodies_of, heads_text, file_text}
 use Rattle.tk_block.proofs.Lengths.{length-file_text}
-use Rattle.tk_store.specs.Store.{Nature, Shown, HasRoom, TellsFull, is_over, extent_of}
-use Rattle.tk_store.specs.OneRecord.{TellsFullOfChanges}
+use Rattle.tk_store.specs.Store.{Held, Groups, Blocks, Pages, Records, Nature, OkOrFault, is_over, extent_of}
+use Rattle.tk_store.specs.OneRecord.{call_changes, TellsFullOfChanges}
+use Rattle.tk_store.specs.declared.error.StoreError.{StoreError}
 use Rattle.tk_store.specs.declared.error.StoreError.TheVariants as errors
 use Rattle.tk_append.specs.Log.{closed_text}
-use Rattle.tk_util.specs.Plain.{told_moment}
-use Rattle.tk_util.specs.Calls.{called_file, passes}
+use Rattle.tk_append.specs.LogParts.{log_end}
+use Rattle.tk_util.specs.declared.plain.PlainStore.{PlainStore}
+use Rattle.tk_util.specs.Plain.{PlainStands, opening, told_moment, plain_disk, plain_head, plain_nature, plain_shown}
+use Rattle.tk_util.specs.Calls.{MadeOn, NoRoomOn, passes}
 
 -- the file of a header by its text and its p
-file_by : (text : List ℕ) (p : ℕ) → List Group → (count next : ℕ) → List ℕ
+abbrev file_by : (text : List ℕ) (p : ℕ) → List Group → (count next : ℕ) → List ℕ
 file_by text p groups count next =
     (text ++ closing_text (record { size = end_of (base_of p) (bodies_of groups); count = count; next = next }))
     ++ (heads_text p (laid (base_of p) (bodies_of groups)) ++ texts (laid (base_of p) (bodies_of groups)) (links_of p [] (laid (base_of p) (bodies_of groups))))
@@ -30,7 +36,7 @@ unfolding static_text static_front
 same_p a b e = ap (λ (l : List ℕ). slice_index l 10) e
 
 by_text : (h : StaticHead) (groups : List Group) (next : ℕ) → closed_text h groups next ≡ file_by (static_text h) h.p groups (length (replay Hash groups [])) next
-unfolding file_text
+unfolding file_text static_text
 by_text h groups next = refl
 
 -- headers of one text have one file
@@ -62,4 +68,86 @@ file_kept false g h groups n next closes b c d = ap (λ (k : ℕ). closed_text g
 pub still_told : (a b : Option (List ℕ)) (A B : Type 0) → told_moment a ≤ told_moment b → (A → B) → IfSome b (λ f. A) → IfSome a (λ f. B)
 still_told None b A B le go x = tt
 still_told (Some f) (Some g) A B le go x = go x
-still_told (Some f) None A B le go x = omega (arith, le)
+still_told (Some f) None A B le go x = absurd (omega (arith, le))
+
+and_false : (b : Bool) → (b && false) ≡ false
+and_false true = refl
+and_false false = refl
+
+-- there was room for what was made
+room_is : {D T : Type 0} (s : PlainStore D) (cs : List Change) (v : T) (size : ℕ) → size ≡ log_end s.log → TellsFullOfChanges {T = T} (plain_nature s) (plain_shown s) cs (Ok v)
+    → is_over size (sum_by (extent_of 1) cs) (2 ^ 40) cs ≡ false
+room_is s [] v size e told = and_false (nat_lt (2 ^ 40) (size + 0))
+room_is s (c ∷ cs) v size e told = ap (λ (n : ℕ). is_over n (sum_by (extent_of 1) (c ∷ cs)) (2 ^ 40) (c ∷ cs)) e ∙ told.store
+
+-- there was none where the store was full
+over_is : {D : Type 0} (T : Type 0) (s : PlainStore D) (cs : List Change) (a n l size : ℕ) → size ≡ log_end s.log → TellsFullOfChanges {T = T} (plain_nature s) (plain_shown s) cs (Err (errors.Full a n l))
+    → is_over size (sum_by (extent_of 1) cs) (2 ^ 40) cs ≡ true
+over_is T s [] a n l size e told = absurd told
+over_is T s (c ∷ cs) a n l size e (inl x) =
+    ap (λ (k : ℕ). is_over k (sum_by (extent_of 1) (c ∷ cs)) (2 ^ 40) (c ∷ cs)) (e ∙ sym x.size_is)
+    ∙ (ap (λ (k : ℕ). is_over a k (2 ^ 40) (c ∷ cs)) (sym x.need_is) ∙ (ap (λ (k : ℕ). is_over a n k (c ∷ cs)) (sym x.limit_is) ∙ x.over))
+over_is T s (c ∷ cs) a n l size e (inr x) = absurd x
+
+abbrev groups_in : Held → List Group
+groups_in (Groups groups) = groups
+groups_in (Blocks blocks) = []
+groups_in (Pages pages) = []
+groups_in Records = []
+
+-- the file is as long as the store says
+size_is : {D : Type 0} (image : D → Option (List ℕ)) (s : PlainStore D) (groups : List Group) → PlainStands image s (opening groups) [] 0 → length (closed_text (plain_head s) groups s.next) ≡ log_end s.log
+size_is image s groups st =
+    length-file_text (plain_head s) groups (length (replay Hash groups [])) s.next
+    ∙ (ap (λ (l : List Group). end_of (base_of (plain_head s).p) (bodies_of l)) (ap groups_in st.held ∙ sym (append-nil st.groups)) ∙ sym st.end_is)
+
+-- a call was not made, and the store then closed
+pub kept_on : {D : Type 0} (image : D → Option (List ℕ)) (s t u : PlainStore D) (groups : List Group) (number : ℕ) (R : Type 0) → plain_nature t ≡ plain_nature s → number ≡ s.next
+    → told_moment (image (plain_disk s)) ≤ told_moment (image (plain_disk t))
+    → IfSome (image (plain_disk t)) (λ f. image (plain_disk u) ≡ Some (if t.writable then closed_text (plain_head t) (groups ++ []) number else closed_text (plain_head t) groups t.next))
+    → (image (plain_disk u) ≡ Some (closed_text (plain_head s) groups s.next) → R)
+    → IfSome (image (plain_disk s)) (λ f. R)
+kept_on image s t u groups number R same numbered time file go =
+    still_told _ _ _ _ time (λ after. go (after ∙ ap Some (file_kept t.writable (plain_head t) (plain_head s) groups t.next s.next number
+        (ap (λ (n : Nature). n.header) same) (ap (λ (n : Nature). n.next) same) numbered))) file
+
+-- a call was made, and the store then closed
+pub made_on : {D P : Type 0} (image : D → Option (List ℕ)) (acts : P → List ℕ → Option (List ℕ) → Action) (turns : P → List ℕ → Option (List ℕ) → P) (s t u : PlainStore D) (key : List ℕ) (p q : P) (groups : List Group) (number closes : ℕ) (status : Status)
+    → PlainStands image s (opening groups) [] 0 → status ≡ short_status (acts p key (find key s.records)) → q ≡ turns p key (find key s.records)
+    → TellsFullOfChanges {T = Status} (plain_nature s) (plain_shown s) (call_changes acts p key s.records) (Ok status)
+    → plain_nature t ≡ plain_nature s → number ≡ s.next → (s.writable ≡ true → closes ≡ s.next + 1)
+    → told_moment (image (plain_disk s)) ≤ told_moment (image (plain_disk t))
+    → IfSome (image (plain_disk t)) (λ f. image (plain_disk u) ≡ Some (if t.writable then closed_text (plain_head t) (groups ++ group_of number (call_changes acts p key s.records)) closes else closed_text (plain_head t) groups t.next))
+    → IfSome (image (plain_disk s)) (λ f. MadeOn acts turns (plain_head s) groups s.next s.writable key p q (image (plain_disk u)) status)
+made_on image acts turns s t u key p q groups number closes status st is turned full same numbered closed time file =
+    let e : s.records ≡ replay Hash groups [] = st.records_now in
+    still_told _ _ _ _ time (λ after. record {
+      status_is = is ∙ ap (λ (m : List Pair). short_status (acts p key (find key m))) e;
+      turned = turned ∙ ap (λ (m : List Pair). turns p key (find key m)) e;
+      room = subst (λ (m : List Pair). passes (closed_text (plain_head s) groups s.next) (call_changes acts p key m) ≡ false) e
+          (room_is s (call_changes acts p key s.records) status (length (closed_text (plain_head s) groups s.next)) (size_is image s groups st) full);
+      after_is = after ∙ ap Some (file_after t.writable s.writable (plain_head t) (plain_head s) groups
+          (group_of number (call_changes acts p key s.records)) (group_of s.next (call_changes acts p key (replay Hash groups []))) t.next s.next closes
+          (ap (λ (n : Nature). n.writable) same) (ap (λ (n : Nature). n.header) same) (ap (λ (n : Nature). n.next) same) closed
+          (ap (λ (n : ℕ). group_of n (call_changes acts p key s.records)) numbered ∙ ap (λ (m : List Pair). group_of s.next (call_changes acts p key m)) e));
+    }) file
+
+-- there was no room for a call
+pub no_room_on : {D P : Type 0} (image : D → Option (List ℕ)) (acts : P → List ℕ → Option (List ℕ) → Action) (s u : PlainStore D) (key : List ℕ) (p : P) (groups : List Group) (a n l : ℕ)
+    → PlainStands image s (opening groups) [] 0
+    → TellsFullOfChanges {T = Status} (plain_nature s) (plain_shown s) (call_changes acts p key s.records) (Err (errors.Full a n l))
+    → image (plain_disk u) ≡ Some (closed_text (plain_head s) groups s.next)
+    → NoRoomOn acts (plain_head s) groups s.next key p (image (plain_disk u))
+no_room_on image acts s u key p groups a n l st full after =
+    let e : s.records ≡ replay Hash groups [] = st.records_now in
+    record {
+      full = subst (λ (m : List Pair). passes (closed_text (plain_head s) groups s.next) (call_changes acts p key m) ≡ true) e
+          (over_is Status s (call_changes acts p key s.records) a n l (length (closed_text (plain_head s) groups s.next)) (size_is image s groups st) full);
+      after_is = after;
+    }
+
+-- what is no want of memory and not full is a fault
+pub fault_only : {T : Type 0} (R : Type 0) (e : StoreError) → OkOrFault {T = T} (Err e) → (IsErrOf {T = T} (Err e) errors.Fault → R) → R
+fault_only R errors.Fault only go = go refl
+fault_only R (errors.Full a n l) only go = absurd only
+fault_only R errors.NoMemory only go = absurd only

@@ -2,7 +2,7 @@ ghost use Rattle.std.specs.Prelude.{◌≡◌, ◌+◌, ◌-◌, ◌<◌, ◌≤
 ghost use Rattle.std.specs.Option.{is_some, option_copied};
 ghost use Rattle.tk_model.specs.declared.record.Group.{Group};
 ghost use Rattle.tk_append.specs.Log.{closed_text};
-ghost use Rattle.tk_store.specs.Store.{First, HasCause, IsWhole, NeverFull, made};
+ghost use Rattle.tk_store.specs.Store.{First, HasCause, IsWhole, NeverFull, OkOrFault, made};
 ghost use Rattle.tk_util.specs.Plain.{PlainStands, opening, plain_disk, plain_head, plain_nature, plain_shown, told_moment};
 
 use crate::plain::{PlainStore, is_over, need_of, told};
@@ -180,6 +180,7 @@ impl<D: Disk> SeqStore for PlainStore<D> {
         ensures taken { D.taken_count (plain_disk self.old) ≤ D.taken_count (plain_disk self.new) }
         ensures cause { HasCause (D.fault_count (plain_disk self.old)) (D.fault_count (plain_disk self.new)) result }
         ensures never { NeverFull result }
+        ensures answers { OkOrFault result }
         ensures file { (groups since : List Group) (hard : ℕ) → PlainStands D.image self.old (opening groups) since hard → OnOk result (IfSome (D.image (plain_disk self.old)) (λ _. D.image (plain_disk self.new) ≡ Some (if (plain_nature self.old).writable then closed_text (plain_head self.old) (groups ++ since) next else closed_text (plain_head self.old) groups (plain_nature self.old).next))) }
         ensures told { is_some (D.image (plain_disk self.new)) ≡ is_some (D.image (plain_disk self.old)) }
     {
