@@ -1,5 +1,8 @@
-ghost use Rattle.std.specs.Prelude.{◌≡◌, IfOk, OnOk, true};
-ghost use Rattle.std.specs.Option.{option_copied};
+ghost use Rattle.std.specs.Prelude.{◌≡◌, ◌≤◌, ◌<◌, ◌-◌, ◌^◌, ◌++◌, ℕ, List, [], length, IfOk, IfSome, OnOk, Some, true, false, if◌then◌else◌};
+ghost use Rattle.std.specs.Option.{is_some, option_copied};
+ghost use Rattle.tk_model.specs.declared.record.Group.{Group};
+ghost use Rattle.tk_store.specs.Store.{First, made, HasCause, NeverFull, OkOrFault, IsWhole, LeavesSafe};
+ghost use Rattle.tk_append.specs.Log.{closed_text};
 
 use crate::plain::{PlainStore, is_over, need_of, told};
 use std::alloc::Global;
@@ -21,7 +24,7 @@ fn copied_pair(found: Option<&Pair>) -> Result<Option<Pair>, NoMemory>
 
 impl<D: Disk> SeqStore for PlainStore<D> {
     ghost use Rattle.std.specs.Prelude.{true, Bool};
-    ghost use Rattle.tk_util.specs.Plain.{plain_disk, plain_closing, plain_nature, plain_shown, PlainStands, PlainPrepared};
+    ghost use Rattle.tk_util.specs.Plain.{plain_disk, plain_head, plain_nature, plain_shown, PlainStands, PlainPrepared, opening};
 
     ghost nature = { plain_nature };
 
@@ -160,7 +163,29 @@ impl<D: Disk> SeqStore for PlainStore<D> {
         Ok(())
     }
 
-    fn close(&mut self, next: u64) -> Result<(), StoreError> {
+    fn close(&mut self, next: u64) -> Result<(), StoreError>
+        requires whole { IsWhole (PlainStands D.image) self.old }
+        requires open { (plain_shown self.old).closed ≡ false }
+        requires number { (plain_nature self.old).writable ≡ true → (plain_shown self.old).floor ≤ next }
+        requires below { (plain_nature self.old).writable ≡ true → next < 2 ^ 64 - 1 }
+        ensures stands { (first : First) (since : List Group) (hard : ℕ) → PlainStands D.image self.old first since hard
+            → OnOk result (PlainStands D.image self.new first (since ++ made (plain_nature self.old) next []) (length (since ++ made (plain_nature self.old) next []))) }
+        ensures map { OnOk result ((plain_shown self.new).map ≡ (plain_shown self.old).map) }
+        ensures since { (t n : ℕ) (first : First) (since : List Group) (hard : ℕ) → PlainStands D.image self.old first since hard
+            → OnOk result (PlainStands D.image self.new first (since ++ made (plain_nature self.old) next []) (length (since ++ made (plain_nature self.old) next []))) }
+        ensures safe { LeavesSafe (λ s t n. PlainStands D.image s) (λ s t first groups n. Unit {0}) (made (plain_nature self.old) next []) self.old self.new }
+        ensures nature { plain_nature self.new ≡ plain_nature self.old }
+        ensures closed { (plain_shown self.new).closed ≡ true }
+        ensures time { 0 ≤ 0 }
+        ensures taken { D.taken_count (plain_disk self.old) ≤ D.taken_count (plain_disk self.new) }
+        ensures cause { HasCause (D.fault_count (plain_disk self.old)) (D.fault_count (plain_disk self.new)) result }
+        ensures never { NeverFull result }
+        ensures answers { OkOrFault result }
+        ensures file { (groups since : List Group) (hard : ℕ) → PlainStands D.image self.old (opening groups) since hard
+            → OnOk result (IfSome (D.image (plain_disk self.old)) (λ _. D.image (plain_disk self.new)
+            ≡ Some (if (plain_nature self.old).writable then closed_text (plain_head self.old) (groups ++ since) next else closed_text (plain_head self.old) groups (plain_nature self.old).next))) }
+        ensures told { is_some (D.image (plain_disk self.new)) ≡ is_some (D.image (plain_disk self.old)) }
+    {
         self.closed = true;
         if self.writable {
             self.end_file(next)?;
