@@ -1,6 +1,6 @@
 -- One call on a file: the file that it leaves, and the room for it.
-use Rattle.std.proofs.Common.{◌≡◌, ℕ, ◌+◌, ◌≤◌, ◌^◌, Bool, true, false, inl, inr, List, [], ◌∷◌, ◌++◌, length, refl, sym, ◌∙◌, ap, subst, arith, if◌then◌else◌}
-use Rattle.std.specs.Prelude.{Option, Some, None, IfSome, slice_index, sum_by, nat_lt, ◌&&◌, Ok, Err, IsErrOf}
+use Rattle.std.proofs.Common.{◌≡◌, ℕ, ◌+◌, ◌-◌, ◌≤◌, ◌^◌, Bool, true, false, inl, inr, List, [], ◌∷◌, ◌++◌, length, refl, sym, ◌∙◌, ap, subst, arith, if◌then◌else◌}
+use Rattle.std.specs.Prelude.{Option, Some, None, IfSome, slice_index, sum_by, nat_lt, ◌&&◌, Ok, Err, IsErrOf, min}
 use Rattle.std.proofs.lemmas.List.{append-nil}
 use Rattle.tk_status.specs.declared.Status.{Status}
 use Rattle.tk_model.specs.declared.record.Action.{Action}
@@ -15,7 +15,7 @@ use Rattle.tk_block.specs.declared.head.StaticHead.{StaticHead}
 use Rattle.tk_block.specs.Text.{static_text, static_front, closing_text, base_of}
 use Rattle.tk_block.specs.Layout.{laid, links_of, end_of, texts, bodies_of, heads_text, file_text}
 use Rattle.tk_block.proofs.Lengths.{length-file_text}
-use Rattle.tk_store.specs.Store.{Held, Groups, Blocks, Pages, Records, Nature, OkOrFault, is_over, extent_of}
+use Rattle.tk_store.specs.Store.{Held, Groups, Blocks, Pages, Records, Nature, OkOrFault, UnlessFault, is_over, extent_of}
 use Rattle.tk_store.specs.OneRecord.{call_changes, TellsFullOfChanges}
 use Rattle.tk_store.specs.declared.error.StoreError.{StoreError}
 use Rattle.tk_store.specs.declared.error.StoreError.TheVariants as errors
@@ -133,21 +133,33 @@ made_on image acts turns s t u key p q groups number closes status st is turned 
     }) file
 
 -- there was no room for a call
-pub no_room_on : {D P : Type 0} (image : D → Option (List ℕ)) (acts : P → List ℕ → Option (List ℕ) → Action) (s u : PlainStore D) (key : List ℕ) (p : P) (groups : List Group) (a n l : ℕ)
+pub no_room_on : {D P : Type 0} (image : D → Option (List ℕ)) (acts : P → List ℕ → Option (List ℕ) → Action) (s u : PlainStore D) (key : List ℕ) (p : P) (groups : List Group) (e : StoreError) (a n l : ℕ) → e ≡ errors.Full a n l
     → PlainStands image s (opening groups) [] 0
-    → TellsFullOfChanges {T = Status} (plain_nature s) (plain_shown s) (call_changes acts p key s.records) (Err (errors.Full a n l))
+    → TellsFullOfChanges {T = Status} (plain_nature s) (plain_shown s) (call_changes acts p key s.records) (Err e)
     → image (plain_disk u) ≡ Some (closed_text (plain_head s) groups s.next)
     → NoRoomOn acts (plain_head s) groups s.next key p (image (plain_disk u))
-no_room_on image acts s u key p groups a n l st full after =
-    let e : s.records ≡ replay Hash groups [] = st.records_now in
+no_room_on image acts s u key p groups e a n l is st full after =
+    let same : s.records ≡ replay Hash groups [] = st.records_now in
     record {
-      full = subst (λ (m : List Pair). passes (closed_text (plain_head s) groups s.next) (call_changes acts p key m) ≡ true) e
-          (over_is Status s (call_changes acts p key s.records) a n l (length (closed_text (plain_head s) groups s.next)) (size_is image s groups st) full);
+      full = subst (λ (m : List Pair). passes (closed_text (plain_head s) groups s.next) (call_changes acts p key m) ≡ true) same
+          (over_is Status s (call_changes acts p key s.records) a n l (length (closed_text (plain_head s) groups s.next)) (size_is image s groups st)
+          (subst (λ (y : StoreError). TellsFullOfChanges {T = Status} (plain_nature s) (plain_shown s) (call_changes acts p key s.records) (Err y)) is full));
       after_is = after;
     }
 
 -- what is no want of memory and not full is a fault
-pub fault_only : {T : Type 0} (R : Type 0) (e : StoreError) → OkOrFault {T = T} (Err e) → (IsErrOf {T = T} (Err e) errors.Fault → R) → R
-fault_only R errors.Fault only go = go refl
-fault_only R (errors.Full a n l) only go = absurd only
-fault_only R errors.NoMemory only go = absurd only
+pub fault_only : (T R : Type 0) (e : StoreError) → OkOrFault {T = T} (Err e) → (IsErrOf {T = T} (Err e) errors.Fault → R) → R
+fault_only T R errors.Fault only go = go refl
+fault_only T R (errors.Full a n l) only go = absurd only
+fault_only T R errors.NoMemory only go = absurd only
+
+-- a full store answers no fault, and so does one that wants memory
+pub full_tells : (T R : Type 0) (e : StoreError) (a n l : ℕ) → e ≡ errors.Full a n l → UnlessFault {T = T} (Err e) R → R
+full_tells T R e a n l is x = subst (λ (y : StoreError). UnlessFault {T = T} (Err y) R) is x
+
+pub memory_tells : (T R : Type 0) (e : StoreError) → e ≡ errors.NoMemory → UnlessFault {T = T} (Err e) R → R
+memory_tells T R e is x = subst (λ (y : StoreError). UnlessFault {T = T} (Err y) R) is x
+
+-- the next number is one more
+pub one_more : (next number closes : ℕ) → number ≡ next → next ≤ 2 ^ 62 → closes ≡ min (number + 1) (2 ^ 64 - 1) → closes ≡ next + 1
+one_more next number closes is low e = omega (arith, is, low, e)

@@ -1,15 +1,19 @@
 -- A plain store that stands for groups goes on to stand for them, and for one more.
 use Rattle.std.proofs.Common.{◌≡◌, ℕ, ◌+◌, ◌*◌, ◌≤◌, ◌^◌, Bool, true, false, List, [], ◌∷◌, ◌++◌, length, refl, sym, ◌∙◌, ap, subst, arith, length-append, append_assoc}
-use Rattle.std.specs.Prelude.{Option, Some, None, IfSome, MatchOption}
+use Rattle.std.specs.Prelude.{◌≢◌, Option, Some, None, IfSome, MatchOption, Result, Ok, Err, OnOk, OnErr, if◌then◌else◌}
 use Rattle.std.specs.Option.{option_map}
 use Rattle.std.proofs.lemmas.Bool.Decides.{nat_tests}
 use Rattle.std.proofs.lemmas.List.{append-nil}
+use Rattle.tk_model.specs.declared.record.Order.{Order}
 use Rattle.tk_model.specs.declared.record.Order.TheVariants.{Hash}
 use Rattle.tk_model.specs.declared.record.Pair.{Pair}
 use Rattle.tk_model.specs.declared.record.Group.{Group}
 use Rattle.tk_model.specs.declared.record.Change.{Change}
 use Rattle.tk_model.specs.Records.{after, replay, Rising, AllFit, AllHeld}
 use Rattle.tk_disk.specs.Disk.{put_at}
+use Rattle.tk_disk.specs.declared.disk.DiskError.{DiskError}
+use Rattle.tk_store.specs.declared.error.StoreError.{StoreError}
+use Rattle.tk_store.specs.declared.error.StoreError.TheVariants as errors
 use Rattle.tk_store.specs.Store.{First, Groups, floor_after, made}
 use Rattle.tk_store.proofs.Mem.{after_held, replay_more, floor_more}
 use Rattle.tk_block.specs.declared.head.StaticHead.{StaticHead}
@@ -20,14 +24,15 @@ use Rattle.tk_block.specs.Layout.{Placed, laid, links_of, end_of, bodies_of, hea
 use Rattle.tk_block.proofs.Lengths.{length-heads_text}
 use Rattle.tk_append.specs.Chains.{HeadsAre}
 use Rattle.tk_append.specs.Pieces.{words_text}
-use Rattle.tk_append.specs.Log.{blocks_of, AreGroups}
-use Rattle.tk_append.specs.LogParts.{log_disk, log_head, log_end}
+use Rattle.tk_append.specs.Log.{blocks_of, AreGroups, closed_text}
+use Rattle.tk_append.specs.LogParts.{log_disk, log_head, log_end, with_closing}
+use Rattle.tk_append.specs.declared.log.GroupLog.{GroupLog}
 use Rattle.tk_append.proofs.FreshSteps.{words_text-heads}
 use Rattle.tk_append.proofs.Layouts.{end_of-least}
 use Rattle.tk_util.specs.declared.plain.PlainStore.{PlainStore}
 use Rattle.tk_util.specs.declared.plain.Staged.{Staged}
-use Rattle.tk_util.specs.Plain.{PlainStands, PlainPrepared, IsStaged, plain_nature, floor_of, text_of}
-use Rattle.tk_util.proofs.PlainSteps.{length-text_of, group_over, end_more, blocks_more}
+use Rattle.tk_util.specs.Plain.{PlainStands, PlainPrepared, IsStaged, plain_nature, floor_of, text_of, opening}
+use Rattle.tk_util.proofs.PlainSteps.{length-text_of, group_over, end_more, blocks_more, closing_over, closed_is}
 
 -- what waits, and that close was called, is no part of what a store stands for
 pub kept : {D : Type 0} (image : D → Option (List ℕ)) (s : PlainStore D) (o : Option Staged) (b : Bool) (first : First) (since : List Group) (hard later : ℕ) → later ≤ length since
@@ -137,3 +142,105 @@ added image s t g n cs first since hard is fits may st same_head grows records h
       end_is = rw (same_head, grows, ← joined) (ap (λ (k : ℕ). end_of k (group_bodies n cs)) st.end_is ∙ sym (end_more h all more));
       there = rw (same_head, closing, ← joined) (file_more (image (log_disk s.log)) (image (log_disk t.log)) h s.closing all more (log_end s.log) is.links g.text st.end_is (is.links_are n (blocks_of h all) st.heads_are) (is.text ∙ words_text-heads h.p g.heads.items (blocks_of h (all ++ more ∷ [])) are) st.there written);
     }
+
+-- a disk's call that was told as done was done
+pub done : {T P : Type 0} (answer : Result T DiskError) (result : Result T StoreError) (v : T) → OnErr answer (result ≡ Err errors.Fault) → result ≡ Ok v → OnOk answer P → P
+done (Ok u) result v err is p = p
+done (Err e) result v err is p = absurd (cc)
+
+-- another closing part
+closed_there : (o n : Option (List ℕ)) (h : StaticHead) (c new : Closing) (groups : List Group) → IfSome o (λ f. f ≡ text_of h c groups) → n ≡ option_map (with_closing new) o → IfSome n (λ f. f ≡ text_of h new groups)
+closed_there None n h c new groups there now = subst (λ (x : Option (List ℕ)). IfSome x (λ f. f ≡ text_of h new groups)) (sym now) tt
+closed_there (Some f) n h c new groups there now =
+    subst (λ (x : Option (List ℕ)). IfSome x (λ f. f ≡ text_of h new groups)) (sym now) (ap (λ (l : List ℕ). with_closing new l) there ∙ closing_over h c new groups)
+
+-- the store after another closing part
+pub marked : {D : Type 0} (image : D → Option (List ℕ)) (s : PlainStore D) (log : GroupLog D) (new : Closing) (first : First) (since : List Group) (hard later : ℕ) → later ≤ length since → s.writable ≡ true → PlainStands image s first since hard
+    → log_head log ≡ log_head s.log → log_end log ≡ log_end s.log → image (log_disk log) ≡ option_map (with_closing new) (image (log_disk s.log))
+    → PlainStands image (record s { log = log; closing = new }) first since later
+marked image s log new first since hard later within may st same_head same_end written = record {
+  groups = st.groups;
+  held = st.held;
+  records_first = st.records_first;
+  records_now = st.records_now;
+  rising = st.rising;
+  fit = st.fit;
+  legal = st.legal;
+  floor = st.floor;
+  synced = within;
+  unmarked = λ no. absurd (cc);
+  no_group = st.no_group;
+  head = ap is_static same_head ∙ st.head;
+  heads_are = rw same_head st.heads_are;
+  end_is = rw (same_head, same_end) st.end_is;
+  there = rw same_head (closed_there (image (log_disk s.log)) (image (log_disk log)) (log_head s.log) s.closing new (st.groups ++ since) st.there written);
+}
+
+replay-append : (o : Order) (gs hs : List Group) (m : List Pair) → replay o (gs ++ hs) m ≡ replay o hs (replay o gs m)
+replay-append o [] hs m = refl
+replay-append o (g ∷ gs) hs m = replay-append o gs hs (after o g.changes m)
+
+same_groups : (a b : List Group) → Groups a ≡ Groups b → a ≡ b
+same_groups a b is = cc
+
+closed_now : (o n : Option (List ℕ)) (h : StaticHead) (c : Closing) (groups : List Group) (size count next : ℕ) → IfSome o (λ f. f ≡ text_of h c groups) → size ≡ end_of (base_of h.p) (bodies_of groups) → count ≡ length (replay Hash groups [])
+    → n ≡ option_map (with_closing (record { size = size; count = count; next = next })) o → IfSome o (λ _. n ≡ Some (closed_text h groups next))
+closed_now None n h c groups size count next there s k now = tt
+closed_now (Some f) n h c groups size count next there s k now =
+    let new : Closing = record { size = size; count = count; next = next } in
+    now ∙ ap (λ (l : List ℕ). Some l) (ap (λ (l : List ℕ). with_closing new l) there ∙ closing_over h c new groups ∙ closed_is h groups size count next s k)
+
+-- the file that a store closes
+pub closed_file : {D : Type 0} (image : D → Option (List ℕ)) (s : PlainStore D) (n : Option (List ℕ)) (next : ℕ) (groups since : List Group) (hard : ℕ) → PlainStands image s (opening groups) since hard
+    → n ≡ option_map (with_closing (record { size = log_end s.log; count = length s.records; next = next })) (image (log_disk s.log))
+    → IfSome (image (log_disk s.log)) (λ _. n ≡ Some (closed_text (log_head s.log) (groups ++ since) next))
+closed_file image s n next groups since hard st now =
+    let h : StaticHead = log_head s.log in
+    let same : st.groups ≡ groups = sym (same_groups groups st.groups st.held) in
+    let count : length s.records ≡ length (replay Hash (groups ++ since) []) = ap length (st.records_now ∙ sym (replay-append Hash groups since [])) in
+    closed_now (image (log_disk s.log)) n h s.closing (groups ++ since) (log_end s.log) (length s.records) next
+    (subst (λ (gs : List Group). IfSome (image (log_disk s.log)) (λ f. f ≡ text_of h s.closing (gs ++ since))) same st.there)
+    (subst (λ (gs : List Group). log_end s.log ≡ end_of (base_of h.p) (bodies_of (gs ++ since))) same st.end_is)
+    count now
+
+still_closed : (o n : Option (List ℕ)) (h : StaticHead) (c : Closing) (groups : List Group) (size count next : ℕ) → IfSome o (λ f. f ≡ text_of h c groups) → c ≡ record { size = size; count = count; next = next } → size ≡ end_of (base_of h.p) (bodies_of groups)
+    → count ≡ length (replay Hash groups []) → n ≡ o → IfSome o (λ _. n ≡ Some (closed_text h groups next))
+still_closed None n h c groups size count next there is s k now = tt
+still_closed (Some f) n h c groups size count next there is s k now =
+    now ∙ ap (λ (l : List ℕ). Some l) (there ∙ ap (λ (d : Closing). text_of h d groups) is ∙ closed_is h groups size count next s k)
+
+-- the file that was only read
+pub read_file : {D : Type 0} (image : D → Option (List ℕ)) (s : PlainStore D) (n : Option (List ℕ)) (groups since : List Group) (hard : ℕ) → PlainStands image s (opening groups) since hard → s.writable ≡ false → n ≡ image (log_disk s.log)
+    → IfSome (image (log_disk s.log)) (λ _. n ≡ Some (closed_text (log_head s.log) groups s.next))
+read_file image s n groups since hard st only now =
+    let h : StaticHead = log_head s.log in
+    let same : st.groups ++ since ≡ groups = ap (λ (l : List Group). st.groups ++ l) (st.no_group only) ∙ append-nil st.groups ∙ sym (same_groups groups st.groups st.held) in
+    let count : length s.records ≡ length (replay Hash groups []) = ap length (st.records_now ∙ ap (λ (l : List Group). replay Hash l (replay Hash groups [])) (st.no_group only)) in
+    still_closed (image (log_disk s.log)) n h s.closing groups (log_end s.log) (length s.records) s.next
+    (subst (λ (gs : List Group). IfSome (image (log_disk s.log)) (λ f. f ≡ text_of h s.closing gs)) same st.there)
+    (st.unmarked only)
+    (subst (λ (gs : List Group). log_end s.log ≡ end_of (base_of h.p) (bodies_of gs)) same st.end_is)
+    count now
+
+-- one of two files, by how the store was opened
+pub as_written : (writable : Bool) (o n : Option (List ℕ)) (a b : List ℕ) → writable ≡ true → IfSome o (λ _. n ≡ Some a) → IfSome o (λ _. n ≡ Some (if writable then a else b))
+as_written true o n a b may is = is
+as_written false o n a b may is = absurd (cc)
+
+pub as_read : (writable : Bool) (o n : Option (List ℕ)) (a b : List ℕ) → writable ≡ false → IfSome o (λ _. n ≡ Some b) → IfSome o (λ _. n ≡ Some (if writable then a else b))
+as_read true o n a b may is = absurd (cc)
+as_read false o n a b may is = is
+
+-- what waits is what was prepared
+pub prepared_is : {D : Type 0} (s : PlainStore D) (o : Option Staged) (g : Staged) (cs : List Change) → o ≡ Some g → MatchOption o (cs ≡ []) (IsStaged s cs) → IsStaged s cs g
+prepared_is s None g cs found is = absurd (cc)
+prepared_is s (Some h) g cs found is = let same : h ≡ g = cc in subst (λ (x : Staged). IsStaged s cs x) same is
+
+pub may_write : (writable : Bool) (cs : List Change) → (writable ≡ false → cs ≡ []) → cs ≢ [] → writable ≡ true
+may_write true cs only some = refl
+may_write false cs only some = absurd (some (only refl))
+
+pub as_made : {D T : Type 0} (image : D → Option (List ℕ)) (s t : PlainStore D) (answer : Result T StoreError) (g : Staged) (n : ℕ) (cs : List Change) (first : First) (since : List Group) (hard : ℕ) → IsStaged s cs g
+    → OnOk answer (PlainStands image t first (since ++ record { number = n; changes = cs } ∷ []) hard) → OnOk answer (PlainStands image t first (since ++ made (plain_nature s) n cs) hard)
+as_made image s t answer g n [] first since hard is st = absurd (is.some refl)
+as_made image s t answer g n (c ∷ cs) first since hard is st = st

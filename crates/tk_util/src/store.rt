@@ -1,9 +1,8 @@
-ghost use Rattle.std.specs.Prelude.{◌≡◌, ◌+◌, ◌-◌, ◌<◌, ◌≤◌, ◌^◌, ◌++◌, ℕ, List, [], length, true, false, IfOk, IfSome, OnOk, Some, if◌then◌else◌};
+ghost use Rattle.std.specs.Prelude.{◌≡◌, ◌≤◌, ◌<◌, ◌-◌, ◌^◌, ◌++◌, ℕ, List, [], length, IfOk, IfSome, OnOk, Some, true, false, if◌then◌else◌};
 ghost use Rattle.std.specs.Option.{is_some, option_copied};
 ghost use Rattle.tk_model.specs.declared.record.Group.{Group};
+ghost use Rattle.tk_store.specs.Store.{First, made, HasCause, NeverFull, OkOrFault, IsWhole, LeavesSafe};
 ghost use Rattle.tk_append.specs.Log.{closed_text};
-ghost use Rattle.tk_store.specs.Store.{First, HasCause, IsWhole, NeverFull, OkOrFault, made};
-ghost use Rattle.tk_util.specs.Plain.{PlainStands, opening, plain_disk, plain_head, plain_nature, plain_shown, told_moment};
 
 use crate::plain::{PlainStore, is_over, need_of, told};
 use std::alloc::Global;
@@ -25,7 +24,7 @@ fn copied_pair(found: Option<&Pair>) -> Result<Option<Pair>, NoMemory>
 
 impl<D: Disk> SeqStore for PlainStore<D> {
     ghost use Rattle.std.specs.Prelude.{true, Bool};
-    ghost use Rattle.tk_util.specs.Plain.{plain_disk, plain_nature, plain_shown, told_moment, PlainStands, PlainPrepared};
+    ghost use Rattle.tk_util.specs.Plain.{plain_disk, plain_head, plain_nature, plain_shown, told_moment, PlainStands, PlainPrepared, opening};
 
     ghost nature = { plain_nature };
 
@@ -174,6 +173,7 @@ impl<D: Disk> SeqStore for PlainStore<D> {
         ensures map { OnOk result ((plain_shown self.new).map ≡ (plain_shown self.old).map) }
         ensures since { (t n : ℕ) (first : First) (since : List Group) (hard : ℕ) → PlainStands D.image self.old first since hard
             → OnOk result (PlainStands D.image self.new first (since ++ made (plain_nature self.old) next []) (length (since ++ made (plain_nature self.old) next []))) }
+        ensures safe { LeavesSafe (λ s t n. PlainStands D.image s) (λ s t first groups n. Unit {0}) (made (plain_nature self.old) next []) self.old self.new }
         ensures nature { plain_nature self.new ≡ plain_nature self.old }
         ensures closed { (plain_shown self.new).closed ≡ true }
         ensures time { told_moment (D.image (plain_disk self.old)) ≤ told_moment (D.image (plain_disk self.new)) }
@@ -181,7 +181,9 @@ impl<D: Disk> SeqStore for PlainStore<D> {
         ensures cause { HasCause (D.fault_count (plain_disk self.old)) (D.fault_count (plain_disk self.new)) result }
         ensures never { NeverFull result }
         ensures answers { OkOrFault result }
-        ensures file { (groups since : List Group) (hard : ℕ) → PlainStands D.image self.old (opening groups) since hard → OnOk result (IfSome (D.image (plain_disk self.old)) (λ _. D.image (plain_disk self.new) ≡ Some (if (plain_nature self.old).writable then closed_text (plain_head self.old) (groups ++ since) next else closed_text (plain_head self.old) groups (plain_nature self.old).next))) }
+        ensures file { (groups since : List Group) (hard : ℕ) → PlainStands D.image self.old (opening groups) since hard
+            → OnOk result (IfSome (D.image (plain_disk self.old)) (λ _. D.image (plain_disk self.new)
+            ≡ Some (if (plain_nature self.old).writable then closed_text (plain_head self.old) (groups ++ since) next else closed_text (plain_head self.old) groups (plain_nature self.old).next))) }
         ensures told { is_some (D.image (plain_disk self.new)) ≡ is_some (D.image (plain_disk self.old)) }
     {
         self.closed = true;

@@ -1,4 +1,3 @@
-use Rattle.std.proofs.Common.{◌≡◌}
 use Rattle.tk_util.proofs.CallSteps.{fault_only}
 use Rattle.tk_util.proofs.call.end_call.Goals as goal
 
