@@ -1,6 +1,7 @@
 -- One call on a file: the file that it leaves, and the room for it.
 use Rattle.std.proofs.Common.{◌≡◌, ℕ, ◌+◌, ◌-◌, ◌≤◌, ◌^◌, Bool, true, false, inl, inr, List, [], ◌∷◌, ◌++◌, length, refl, sym, ◌∙◌, ap, subst, arith, if◌then◌else◌}
 use Rattle.std.specs.Prelude.{Option, Some, None, IfSome, slice_index, sum_by, nat_lt, ◌&&◌, Ok, Err, IsErrOf, min}
+use Rattle.std.specs.Option.{is_some}
 use Rattle.std.proofs.lemmas.List.{append-nil}
 use Rattle.tk_status.specs.declared.Status.{Status}
 use Rattle.tk_model.specs.declared.record.Action.{Action}
@@ -163,3 +164,9 @@ memory_tells T R e is x = subst (λ (y : StoreError). UnlessFault {T = T} (Err y
 -- the next number is one more
 pub one_more : (next number closes : ℕ) → number ≡ next → next ≤ 2 ^ 62 → closes ≡ min (number + 1) (2 ^ 64 - 1) → closes ≡ next + 1
 one_more next number closes is low e = omega (arith, is, low, e)
+
+-- a disk that tells its bytes goes on to
+pub tells_on : (old new : Option (List ℕ)) → is_some new ≡ is_some old → told_moment old ≤ told_moment new
+tells_on None new same = omega arith
+tells_on (Some f) (Some g) same = omega arith
+tells_on (Some f) None same = absurd (cc same)

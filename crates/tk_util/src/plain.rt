@@ -241,6 +241,7 @@ impl<D: Disk> PlainStore<D> {
         ensures shown { OnOk result (plain_shown self.new ≡ record (plain_shown self.old) { map = Some staged.records; size = log_end self.new.log; floor = number + 1 }) }
         ensures nature { plain_nature self.new ≡ plain_nature self.old }
         ensures open { (plain_shown self.new).closed ≡ (plain_shown self.old).closed }
+        ensures told { is_some (D.image (plain_disk self.new)) ≡ is_some (D.image (plain_disk self.old)) }
         ensures taken { D.taken_count (plain_disk self.new) ≡ D.taken_count (plain_disk self.old) }
         ensures cause { StoreCause (D.fault_count (plain_disk self.old)) (D.fault_count (plain_disk self.new)) result }
         ensures answers { OkOrFault result }

@@ -1,5 +1,7 @@
 use Rattle.std.proofs.Common.{rules}
 use Rattle.tk_util.proofs.PlainKeeps.{prepared_is, as_made, staged_still, may_write, restaged}
+use Rattle.tk_util.specs.Plain.{plain_disk}
+use Rattle.tk_util.proofs.CallSteps.{tells_on}
 use Rattle.tk_util.proofs.store.PlainStoreSeqStore.apply_reserved.Goals as goal
 
 pub returns-in-Some-clause-stands : goal.returns-in-Some-clause-stands
@@ -11,3 +13,6 @@ returns-in-Some-clause-stands g c changes p first since hard st =
 
 pub returns-in-Some-clause-since : goal.returns-in-Some-clause-since
 returns-in-Some-clause-since g c changes p t n first since hard st = returns-in-Some-clause-stands g c changes p first since hard st
+
+pub returns-in-Some-clause-time : goal.returns-in-Some-clause-time
+returns-in-Some-clause-time g c = tells_on (g.D.Disk.image (plain_disk c.args.self.now)) (g.D.Disk.image (plain_disk c.put_staged.new.self)) c.put_staged.ensures.told
