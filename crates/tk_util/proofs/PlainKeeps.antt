@@ -10,6 +10,7 @@ use Rattle.tk_model.specs.declared.record.Pair.{Pair}
 use Rattle.tk_model.specs.declared.record.Group.{Group}
 use Rattle.tk_model.specs.declared.record.Change.{Change}
 use Rattle.tk_model.specs.Records.{after, replay, Rising, AllFit, AllHeld}
+use Rattle.tk_model.proofs.RecordLaws.{replay_rising}
 use Rattle.tk_disk.specs.Disk.{put_at}
 use Rattle.tk_disk.specs.declared.disk.DiskError.{DiskError}
 use Rattle.tk_store.specs.declared.error.StoreError.{StoreError}
@@ -24,7 +25,7 @@ use Rattle.tk_block.specs.Layout.{Placed, laid, links_of, end_of, bodies_of, hea
 use Rattle.tk_block.proofs.Lengths.{length-heads_text}
 use Rattle.tk_append.specs.Chains.{HeadsAre}
 use Rattle.tk_append.specs.Pieces.{words_text}
-use Rattle.tk_append.specs.Log.{blocks_of, AreGroups, closed_text}
+use Rattle.tk_append.specs.Log.{blocks_of, AreGroups, IsRead, closed_text}
 use Rattle.tk_append.specs.LogParts.{log_disk, log_head, log_end, with_closing}
 use Rattle.tk_append.specs.declared.log.GroupLog.{GroupLog}
 use Rattle.tk_append.proofs.FreshSteps.{words_text-heads}
@@ -244,3 +245,40 @@ pub as_made : {D T : Type 0} (image : D → Option (List ℕ)) (s t : PlainStore
     → OnOk answer (PlainStands image t first (since ++ record { number = n; changes = cs } ∷ []) hard) → OnOk answer (PlainStands image t first (since ++ made (plain_nature s) n cs) hard)
 as_made image s t answer g n [] first since hard is st = absurd (is.some refl)
 as_made image s t answer g n (c ∷ cs) first since hard is st = st
+
+replay_held : (o : Order) (least next : ℕ) (gs : List Group) (m : List Pair) → AreGroups least next gs → AllHeld m → AllHeld (replay o gs m)
+replay_held o least next [] m legal fit = fit
+replay_held o least next (g ∷ gs) m legal fit = replay_held o (g.number + 1) next gs (after o g.changes m) legal.4 (after_held o g.changes m legal.2 fit)
+
+opened_there : (o : Option (List ℕ)) (h : StaticHead) (c : Closing) (groups : List Group) (size count next : ℕ) → c ≡ record { size = size; count = count; next = next } → size ≡ end_of (base_of h.p) (bodies_of groups) → count ≡ length (replay Hash groups [])
+    → IfSome o (λ f. f ≡ closed_text h groups next) → IfSome o (λ f. f ≡ text_of h c groups)
+opened_there None h c groups size count next is s k there = tt
+opened_there (Some f) h c groups size count next is s k there = there ∙ sym (ap (λ (d : Closing). text_of h d groups) is ∙ closed_is h groups size count next s k)
+
+-- a store over a file that was read stands for its groups
+pub opened : {D : Type 0} (image : D → Option (List ℕ)) (s : PlainStore D) (groups : List Group) → IsRead (log_head s.log) (log_end s.log) s.records s.heads.items s.next groups → s.last ≡ None
+    → s.closing ≡ record { size = log_end s.log; count = length s.records; next = s.next } → IfSome (image (log_disk s.log)) (λ f. f ≡ closed_text (log_head s.log) groups s.next) → PlainStands image s (opening groups) [] 0
+opened image s groups is last closing there =
+    let h : StaticHead = log_head s.log in
+    record {
+      groups = groups;
+      held = refl;
+      records_first = refl;
+      records_now = is.records_are;
+      rising = replay_rising Hash groups [] tt;
+      fit = subst AllHeld (sym is.records_are) (replay_held Hash 0 s.next groups [] is.legal tt);
+      legal = is.legal;
+      floor = ap (λ (k : Option ℕ). floor_of s.next k) last;
+      synced = omega arith;
+      unmarked = λ _. closing;
+      no_group = λ _. refl;
+      head = is.head;
+      heads_are = subst (λ (l : List Group). HeadsAre h.p s.heads.items (blocks_of h l)) (sym (append-nil groups)) is.heads_are;
+      end_is = subst (λ (l : List Group). log_end s.log ≡ end_of (base_of h.p) (bodies_of l)) (sym (append-nil groups)) is.end_is;
+      there = subst (λ (l : List Group). IfSome (image (log_disk s.log)) (λ f. f ≡ text_of h s.closing l)) (sym (append-nil groups))
+          (opened_there (image (log_disk s.log)) h s.closing groups (log_end s.log) (length s.records) s.next closing is.end_is (ap length is.records_are) there);
+    }
+
+pub closing_of : (c : Closing) (size count next : ℕ) → c.size ≡ size → c.count ≡ count → c.next ≡ next → c ≡ record { size = size; count = count; next = next }
+closing_of c size count next a b d =
+    ap (λ (n : ℕ). record c { size = n }) a ∙ ap (λ (n : ℕ). record c { size = size; count = n }) b ∙ ap (λ (n : ℕ). record c { size = size; count = count; next = n }) d

@@ -12,7 +12,7 @@ ghost use Rattle.tk_block.specs.Blocks.{group_bodies};
 ghost use Rattle.tk_block.specs.Layout.{group_text, end_of};
 ghost use Rattle.tk_append.specs.Pieces.{words_text};
 ghost use Rattle.tk_append.specs.Opening.{first_fault};
-ghost use Rattle.tk_append.specs.Log.{Tells, closed_text};
+ghost use Rattle.tk_append.specs.Log.{Tells, IsRead, closed_text};
 ghost use Rattle.tk_append.specs.LogParts.{log_disk, log_head, log_end, IsReady};
 ghost use Rattle.tk_util.specs.Plain.{alone, plain_disk, plain_head, plain_nature, plain_shown, IsStaged, PlainStands, opening};
 
@@ -154,21 +154,46 @@ impl<D: Disk> PlainStore<D> {
         ensures fault { IfErr result (λ u. u.cause ≡ OpenError.Fault → Rose (D.fault_count disk) (D.fault_count u.disk)) }
         ensures later { IfErr result (λ u. D.fault_count disk ≤ D.fault_count u.disk) }
     {
+        let read = match read_log(alloc, disk, &[1], writable, ShardOf { index: 0, of: 1 }) {
+            Ok(read) => read,
+            Err(unopened) => return Err(unopened),
+        };
+        let mut store = PlainStore::of_file(alloc, read, writable);
+        if !writable {
+            return Ok(store);
+        }
+        match store.begin() {
+            Ok(()) => Ok(store),
+            Err(_) => Err(Unopened {
+                cause: OpenError::Fault,
+                disk: store.into_disk(),
+            }),
+        }
+    }
+
+    /// The store over a file that was read.
+    fn of_file(alloc: Global, read: ReadLog<D>, writable: bool) -> PlainStore<D>
+        ensures stands { (groups : List Group) → IsRead (log_head read.log) (log_end read.log) read.records read.heads.items read.next groups
+            → IfSome (D.image (log_disk read.log)) (λ f. f ≡ closed_text (log_head read.log) groups read.next)
+            → PlainStands D.image result (opening groups) [] 0 }
+        ensures disk { plain_disk result ≡ log_disk read.log }
+        ensures head { plain_head result ≡ log_head read.log }
+        ensures next { (plain_nature result).next ≡ read.next }
+        ensures writable { (plain_nature result).writable ≡ writable }
+        ensures open { (plain_shown result).closed ≡ false }
+    {
         let ReadLog {
             log,
             records,
             heads,
             next,
-        } = match read_log(alloc, disk, &[1], writable, ShardOf { index: 0, of: 1 }) {
-            Ok(read) => read,
-            Err(unopened) => return Err(unopened),
-        };
+        } = read;
         let closing = Closing {
             size: log.end(),
             count: records.len() as u64,
             next,
         };
-        let mut store = PlainStore {
+        PlainStore {
             alloc,
             log,
             records,
@@ -179,14 +204,27 @@ impl<D: Disk> PlainStore<D> {
             last: None,
             writable,
             closed: false,
-        };
-        if writable && store.log.mark_open().is_err() {
-            return Err(Unopened {
-                cause: OpenError::Fault,
-                disk: store.into_disk(),
-            });
         }
-        Ok(store)
+    }
+
+    /// Makes it durable that the file is open.
+    fn begin(&mut self) -> Result<(), DiskError>
+        requires whole { IsWhole (PlainStands D.image) self.old }
+        ensures stands { (plain_nature self.old).writable ≡ true → (first : First) (since : List Group) (hard : ℕ) → PlainStands D.image self.old first since hard
+            → OnOk result (PlainStands D.image self.new first since hard) }
+        ensures head { plain_head self.new ≡ plain_head self.old }
+        ensures nature { plain_nature self.new ≡ plain_nature self.old }
+        ensures shown { plain_shown self.new ≡ plain_shown self.old }
+        ensures told { is_some (D.image (plain_disk self.new)) ≡ is_some (D.image (plain_disk self.old)) }
+        ensures cause { HasCause (D.fault_count (plain_disk self.old)) (D.fault_count (plain_disk self.new)) result }
+    {
+        self.log.mark_open()?;
+        self.closing = Closing {
+            size: 0,
+            count: 0,
+            next: 0,
+        };
+        Ok(())
     }
 
     pub(crate) fn into_disk(self) -> D
