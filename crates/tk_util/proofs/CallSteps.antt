@@ -1,6 +1,6 @@
 -- One call on a file: the file that it leaves, and the room for it.
 use Rattle.std.proofs.Common.{◌≡◌, ℕ, ◌+◌, ◌-◌, ◌≤◌, ◌^◌, Bool, true, false, inl, inr, List, [], ◌∷◌, ◌++◌, length, refl, sym, ◌∙◌, ap, subst, arith, if◌then◌else◌}
-use Rattle.std.specs.Prelude.{Option, Some, None, IfSome, slice_index, sum_by, nat_lt, ◌&&◌, Ok, Err, IsErrOf, min}
+use Rattle.std.specs.Prelude.{Option, Some, None, IfSome, slice_index, sum_by, nat_lt, ◌&&◌, Result, Ok, Err, IfOk, IsErrOf, min}
 use Rattle.std.specs.Option.{is_some}
 use Rattle.std.proofs.lemmas.List.{append-nil}
 use Rattle.tk_status.specs.declared.Status.{Status}
@@ -22,9 +22,12 @@ use Rattle.tk_store.specs.declared.error.StoreError.{StoreError}
 use Rattle.tk_store.specs.declared.error.StoreError.TheVariants as errors
 use Rattle.tk_append.specs.Log.{closed_text}
 use Rattle.tk_append.specs.LogParts.{log_end}
+use Rattle.tk_append.specs.Opening.{first_fault}
 use Rattle.tk_util.specs.declared.plain.PlainStore.{PlainStore}
-use Rattle.tk_util.specs.Plain.{PlainStands, opening, told_moment, plain_disk, plain_head, plain_nature, plain_shown}
-use Rattle.tk_util.specs.Calls.{MadeOn, NoRoomOn, passes}
+use Rattle.tk_util.specs.declared.call.Stop.{Stop}
+use Rattle.tk_util.specs.declared.call.Stop.TheVariants.{Full}
+use Rattle.tk_util.specs.Plain.{alone, PlainStands, opening, told_moment, plain_disk, plain_head, plain_nature, plain_shown}
+use Rattle.tk_util.specs.Calls.{Made, MadeOn, NoRoom, NoRoomOn, passes}
 
 -- the file of a header by its text and its p
 abbrev file_by : (text : List ℕ) (p : ℕ) → List Group → (count next : ℕ) → List ℕ
@@ -170,3 +173,34 @@ pub tells_on : (old new : Option (List ℕ)) → is_some new ≡ is_some old →
 tells_on None new same = omega arith
 tells_on (Some f) (Some g) same = omega arith
 tells_on (Some f) None same = absurd (cc same)
+
+known : (o : Option (List ℕ)) (R : Type 0) → is_some o ≡ true → IfSome o (λ f. R) → R
+known (Some f) R same x = x
+known None R same x = absurd (cc same)
+
+-- the groups of a store that was opened, with the file that it was opened on
+abbrev pub Opened : {D : Type 0} (image : D → Option (List ℕ)) → PlainStore D → Option (List ℕ) → Type 0
+Opened image s a = (groups : List Group) × PlainStands image s (opening groups) [] 0 × IfSome a (λ f. f ≡ closed_text (plain_head s) groups s.next)
+
+-- a call on the file that was opened
+pub made_at : {D P : Type 0} (image : D → Option (List ℕ)) (acts : P → List ℕ → Option (List ℕ) → Action) (turns : P → List ℕ → Option (List ℕ) → P) (a : Option (List ℕ)) (s : PlainStore D) (u v : D) (w : Bool) (key : List ℕ) (p q : P) (answer : Result Status Stop)
+    → IfSome a (λ f. first_fault (1 ∷ []) w alone f ≡ None) → Opened image s a → s.writable ≡ w → is_some (image (plain_disk s)) ≡ is_some a → v ≡ u
+    → ((groups : List Group) → PlainStands image s (opening groups) [] 0 → IfSome (image (plain_disk s)) (λ f. IfOk answer (MadeOn acts turns (plain_head s) groups s.next s.writable key p q (image u))))
+    → IfSome a (λ f. IfOk answer (Made acts turns w f key p q (image v)))
+made_at image acts turns None s u v w key p q answer accepted opened mode told same made = tt
+made_at image acts turns (Some f) s u v w key p q (Err stop) accepted opened mode told same made = tt
+made_at image acts turns (Some f) s u v w key p q (Ok status) accepted opened mode told same made = record {
+  holds = record { accepted = accepted; head = plain_head s; groups = opened.0; next = s.next; file = opened.2 };
+  made = subst (λ (x : D). MadeOn acts turns (plain_head s) opened.0 s.next w key p q (image x) status) (sym same)
+      (subst (λ (b : Bool). MadeOn acts turns (plain_head s) opened.0 s.next b key p q (image u) status) mode (known (image (plain_disk s)) _ told (made opened.0 opened.1)));
+}
+
+pub no_room_at : {D P : Type 0} (image : D → Option (List ℕ)) (acts : P → List ℕ → Option (List ℕ) → Action) (a : Option (List ℕ)) (s : PlainStore D) (u v : D) (w : Bool) (key : List ℕ) (p : P) (answer : Result Status Stop)
+    → IfSome a (λ f. first_fault (1 ∷ []) w alone f ≡ None) → Opened image s a → is_some (image (plain_disk s)) ≡ is_some a → v ≡ u
+    → ((groups : List Group) → PlainStands image s (opening groups) [] 0 → IfSome (image (plain_disk s)) (λ f. answer ≡ Err Full → NoRoomOn acts (plain_head s) groups s.next key p (image u)))
+    → IfSome a (λ f. answer ≡ Err Full → NoRoom acts w f key p (image v))
+no_room_at image acts None s u v w key p answer accepted opened told same full = tt
+no_room_at image acts (Some f) s u v w key p answer accepted opened told same full = λ is. record {
+  holds = record { accepted = accepted; head = plain_head s; groups = opened.0; next = s.next; file = opened.2 };
+  full = subst (λ (x : D). NoRoomOn acts (plain_head s) opened.0 s.next key p (image x)) (sym same) (known (image (plain_disk s)) _ told (full opened.0 opened.1) is);
+}
