@@ -189,7 +189,7 @@ pub made_at : {D P : Type 0} (image : D → Option (List ℕ)) (acts : P → Lis
     → IfSome a (λ f. IfOk answer (Made acts turns w f key p q (image v)))
 made_at image acts turns None s u v w key p q answer accepted opened mode told same made = tt
 made_at image acts turns (Some f) s u v w key p q (Err stop) accepted opened mode told same made = tt
-made_at image acts turns (Some f) s u v w key p q (Ok status) accepted opened mode told same made = record {
+made_at {D = D} image acts turns (Some f) s u v w key p q (Ok status) accepted opened mode told same made = record {
   holds = record { accepted = accepted; head = plain_head s; groups = opened.0; next = s.next; file = opened.2 };
   made = subst (λ (x : D). MadeOn acts turns (plain_head s) opened.0 s.next w key p q (image x) status) (sym same)
       (subst (λ (b : Bool). MadeOn acts turns (plain_head s) opened.0 s.next b key p q (image u) status) mode (known (image (plain_disk s)) _ told (made opened.0 opened.1)));
@@ -200,7 +200,7 @@ pub no_room_at : {D P : Type 0} (image : D → Option (List ℕ)) (acts : P → 
     → ((groups : List Group) → PlainStands image s (opening groups) [] 0 → IfSome (image (plain_disk s)) (λ f. answer ≡ Err Full → NoRoomOn acts (plain_head s) groups s.next key p (image u)))
     → IfSome a (λ f. answer ≡ Err Full → NoRoom acts w f key p (image v))
 no_room_at image acts None s u v w key p answer accepted opened told same full = tt
-no_room_at image acts (Some f) s u v w key p answer accepted opened told same full = λ is. record {
+no_room_at {D = D} image acts (Some f) s u v w key p answer accepted opened told same full = λ is. record {
   holds = record { accepted = accepted; head = plain_head s; groups = opened.0; next = s.next; file = opened.2 };
   full = subst (λ (x : D). NoRoomOn acts (plain_head s) opened.0 s.next key p (image x)) (sym same) (known (image (plain_disk s)) _ told (full opened.0 opened.1) is);
 }
