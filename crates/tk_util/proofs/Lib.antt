@@ -1,5 +1,5 @@
 pub mod Names
+pub mod PlainKeeps
 pub mod PlainLoops
 pub mod PlainSteps
 pub mod PutGroup
-pub mod PlainKeeps
