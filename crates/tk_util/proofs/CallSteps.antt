@@ -113,7 +113,7 @@ pub kept_on : {D : Type 0} (image : D → Option (List ℕ)) (s t u : PlainStore
     → IfSome (image (plain_disk s)) (λ f. R)
 kept_on image s t u groups number R same numbered time file go =
     still_told _ _ _ _ time (λ after. go (after ∙ ap Some (file_kept t.writable (plain_head t) (plain_head s) groups t.next s.next number
-        (ap (λ (n : Nature). n.header) same) (ap (λ (n : Nature). n.next) same) numbered))) file
+    (ap (λ (n : Nature). n.header) same) (ap (λ (n : Nature). n.next) same) numbered))) file
 
 -- a call was made, and the store then closed
 pub made_on : {D P : Type 0} (image : D → Option (List ℕ)) (acts : P → List ℕ → Option (List ℕ) → Action) (turns : P → List ℕ → Option (List ℕ) → P) (s t u : PlainStore D) (key : List ℕ) (p q : P) (groups : List Group) (number closes : ℕ) (status : Status)

@@ -1,5 +1,5 @@
 -- A plain store that stands for groups goes on to stand for them, and for one more.
-use Rattle.std.proofs.Common.{◌≡◌, ℕ, ◌+◌, ◌*◌, ◌≤◌, ◌^◌, Bool, true, false, List, [], ◌∷◌, ◌++◌, length, refl, sym, ◌∙◌, ap, subst, arith, length-append, append_assoc}
+use Rattle.std.proofs.Common.{◌≡◌, ℕ, ◌+◌, ◌≤◌, Bool, true, false, List, [], ◌∷◌, ◌++◌, length, refl, sym, ◌∙◌, ap, subst, arith, length-append, append_assoc}
 use Rattle.std.specs.Prelude.{◌≢◌, Option, Some, None, IfSome, MatchOption, Result, Ok, Err, OnOk, OnErr, if◌then◌else◌}
 use Rattle.std.specs.Option.{option_map}
 use Rattle.std.proofs.lemmas.Bool.Decides.{nat_tests}
@@ -9,13 +9,13 @@ use Rattle.tk_model.specs.declared.record.Order.TheVariants.{Hash}
 use Rattle.tk_model.specs.declared.record.Pair.{Pair}
 use Rattle.tk_model.specs.declared.record.Group.{Group}
 use Rattle.tk_model.specs.declared.record.Change.{Change}
-use Rattle.tk_model.specs.Records.{after, replay, Rising, AllFit, AllHeld}
+use Rattle.tk_model.specs.Records.{after, replay, AllFit, AllHeld}
 use Rattle.tk_model.proofs.RecordLaws.{replay_rising}
 use Rattle.tk_disk.specs.Disk.{put_at}
 use Rattle.tk_disk.specs.declared.disk.DiskError.{DiskError}
 use Rattle.tk_store.specs.declared.error.StoreError.{StoreError}
 use Rattle.tk_store.specs.declared.error.StoreError.TheVariants as errors
-use Rattle.tk_store.specs.Store.{First, Groups, floor_after, made}
+use Rattle.tk_store.specs.Store.{First, Groups, made}
 use Rattle.tk_store.proofs.Mem.{after_held, replay_more, floor_more}
 use Rattle.tk_block.specs.declared.head.StaticHead.{StaticHead}
 use Rattle.tk_block.specs.declared.closing.Closing.{Closing}
@@ -32,7 +32,7 @@ use Rattle.tk_append.proofs.FreshSteps.{words_text-heads}
 use Rattle.tk_append.proofs.Layouts.{end_of-least}
 use Rattle.tk_util.specs.declared.plain.PlainStore.{PlainStore}
 use Rattle.tk_util.specs.declared.plain.Staged.{Staged}
-use Rattle.tk_util.specs.Plain.{PlainStands, PlainPrepared, IsStaged, plain_nature, floor_of, text_of, opening}
+use Rattle.tk_util.specs.Plain.{PlainStands, IsStaged, plain_nature, floor_of, text_of, opening}
 use Rattle.tk_util.proofs.PlainSteps.{length-text_of, group_over, end_more, blocks_more, closing_over, closed_is}
 
 -- what waits, and that close was called, is no part of what a store stands for

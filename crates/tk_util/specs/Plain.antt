@@ -1,5 +1,5 @@
 -- A store over a group log, with its records in memory.
-use Rattle.std.specs.Prelude.{◌≡◌, ◌≢◌, ℕ, ◌+◌, ◌≤◌, ◌^◌, Bool, true, false, List, [], ◌∷◌, ◌++◌, length, MatchOption, Option, Some, None, IfSome, sum_by}
+use Rattle.std.specs.Prelude.{◌≡◌, ◌≢◌, ℕ, ◌+◌, ◌≤◌, ◌^◌, true, false, List, [], ◌++◌, length, MatchOption, Option, Some, None, IfSome, sum_by}
 use Rattle.tk_model.specs.Records.{after, replay, Rising, AllFit, AllHeld}
 use Rattle.tk_model.specs.declared.record.Order.TheVariants.{Hash}
 use Rattle.tk_model.specs.declared.record.Group.{Group}

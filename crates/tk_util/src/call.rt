@@ -24,9 +24,7 @@ use tk_store::{SeqStore, StoreError, run_on};
 #[derive(Clone, Copy, Debug, PartialEq, Eq)]
 pub(crate) enum Stop {
     /// The file is no hash file: the first place that fails.
-    Refused {
-        place: u64,
-    },
+    Refused { place: u64 },
     /// The file would pass the limit.
     Full,
     Fault,

@@ -1,7 +1,7 @@
 //! A store over a file of groups, with all its records in memory.
 ghost use Rattle.std.specs.Prelude.{◌≡◌, ◌≢◌, ◌+◌, ◌≤◌, ◌^◌, ◌++◌, ◌==◌, ◌&&◌, ◌∷◌, not, nat_lt, ℕ, List, [], length, true, false, IfOk, IfErr, IfSome, OnOk, OnErr, Some, None, Ok, Err, sum_by};
 ghost use Rattle.std.specs.Option.{is_some, option_map};
-ghost use Rattle.tk_model.specs.Records.{after, replay, AllFit};
+ghost use Rattle.tk_model.specs.Records.{after, AllFit};
 ghost use Rattle.tk_model.specs.declared.record.Order.TheVariants.{Hash};
 ghost use Rattle.tk_model.specs.declared.record.Group.{Group};
 ghost use Rattle.tk_model.specs.declared.record.Change.{Change as Changed};
@@ -136,11 +136,7 @@ pub(crate) fn put_group<D: Disk>(
 
 impl<D: Disk> PlainStore<D> {
     /// Opens a file of kind 1. A writable opening makes it durable that the file is open.
-    pub(crate) fn open(
-        alloc: Global,
-        disk: D,
-        writable: bool,
-    ) -> Result<PlainStore<D>, Unopened<D>>
+    pub(crate) fn open(alloc: Global, disk: D, writable: bool) -> Result<PlainStore<D>, Unopened<D>>
         ensures exact { IfSome (D.image disk) (λ f. Tells result (first_fault (1 ∷ []) writable alone f)) }
         ensures opened { IfOk result (λ s. (groups : List Group) × PlainStands D.image s (opening groups) [] 0
             × IfSome (D.image disk) (λ f. f ≡ closed_text (plain_head s) groups (plain_nature s).next)) }
@@ -258,7 +254,13 @@ impl<D: Disk> PlainStore<D> {
         ensures disk { plain_disk self.new ≡ plain_disk self.old }
     {
         let p = self.log.head().p;
-        let plan = plan_group(self.alloc, p, &self.heads, self.log.end(), changes.as_slice())?;
+        let plan = plan_group(
+            self.alloc,
+            p,
+            &self.heads,
+            self.log.end(),
+            changes.as_slice(),
+        )?;
         let text = text_of_heads(self.alloc, &plan.heads)?;
         let records = records_after(&self.records, changes.as_slice())?;
         self.log.prepare(changes, &plan.links)?;

@@ -1,4 +1,4 @@
-use Rattle.std.proofs.Common.{rules, ◌++◌}
+use Rattle.std.proofs.Common.{◌++◌}
 use Rattle.tk_append.specs.LogParts.{log_disk, log_head, open_mark}
 use Rattle.tk_util.proofs.PlainKeeps.{marked, header_there}
 use Rattle.tk_util.proofs.plain.PlainStore.begin.Goals as goal

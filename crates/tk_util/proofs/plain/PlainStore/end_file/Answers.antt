@@ -1,7 +1,6 @@
-use Rattle.std.proofs.Common.{rules, ◌≡◌, ◌++◌, ℕ, List, length, refl, sym, ◌∙◌, ap, subst, arith}
+use Rattle.std.proofs.Common.{rules, ◌≡◌, ◌++◌, ℕ, length, sym, ◌∙◌, subst, arith}
 use Rattle.std.specs.Option.{option_map}
 use Rattle.tk_append.specs.LogParts.{log_disk, log_head, log_end, with_closing}
-use Rattle.tk_util.proofs.plain.PlainStore.end_file.Given as Given
 use Rattle.tk_util.proofs.PlainKeeps.{marked, closed_file, done, header_there}
 use Rattle.tk_util.proofs.plain.PlainStore.end_file.Goals as goal
 

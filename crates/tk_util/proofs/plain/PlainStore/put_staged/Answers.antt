@@ -1,5 +1,5 @@
-use Rattle.std.proofs.Common.{rules, ◌≡◌, ◌++◌, List, refl, sym, ◌∙◌, ap}
-use Rattle.tk_append.specs.LogParts.{log_disk, log_head, log_end}
+use Rattle.std.proofs.Common.{rules, ◌++◌, refl, ◌∙◌}
+use Rattle.tk_append.specs.LogParts.{log_head, log_end}
 use Rattle.tk_append.specs.Log.{blocks_of}
 use Rattle.tk_block.specs.Blocks.{group_bodies}
 use Rattle.tk_block.specs.Layout.{laid}

@@ -1,4 +1,4 @@
-use Rattle.std.proofs.Common.{◌≡◌, ◌++◌, List, length, true, refl, sym, subst}
+use Rattle.std.proofs.Common.{◌++◌, List, length, true, refl, sym, subst}
 use Rattle.std.proofs.lemmas.List.{append-nil}
 use Rattle.tk_model.specs.declared.record.Group.{Group}
 use Rattle.tk_append.specs.Log.{closed_text}
