@@ -1,10 +1,8 @@
 //! One call on a file.
-ghost use Rattle.std.specs.Prelude.{◌≡◌, ◌⊎◌, ◌+◌, ◌-◌, ◌<◌, ◌≤◌, ◌^◌, ◌++◌, ℕ, List, [], length, true, false, Option, IfOk, IfSome, OnOk, OnErr, Some, Err, if◌then◌else◌};
+ghost use Rattle.std.specs.Prelude.{◌≡◌, ◌⊎◌, ◌-◌, ◌<◌, ◌≤◌, ◌^◌, ◌++◌, ℕ, List, [], length, true, false, Option, IfOk, IfSome, OnOk, OnErr, Some, Err, if◌then◌else◌};
 ghost use Rattle.std.specs.Option.{is_some};
 ghost use Rattle.tk_model.specs.declared.record.Action.TheVariants.{Keep};
 ghost use Rattle.tk_model.specs.declared.record.Group.{Group};
-ghost use Rattle.tk_model.specs.declared.record.Order.TheVariants.{Hash};
-ghost use Rattle.tk_model.specs.Records.{replay};
 ghost use Rattle.tk_disk.specs.Disk.{Rose};
 ghost use Rattle.tk_append.specs.Log.{closed_text};
 ghost use Rattle.tk_store.specs.Store.{IsWhole};
