@@ -1,7 +1,8 @@
 -- One call on a file: the file that it leaves, and the room for it.
 use Rattle.std.proofs.Common.{◌≡◌, ℕ, ◌+◌, ◌-◌, ◌≤◌, ◌^◌, Bool, true, false, inl, inr, List, [], ◌∷◌, ◌++◌, length, refl, sym, ◌∙◌, ap, subst, arith, if◌then◌else◌}
-use Rattle.std.specs.Prelude.{Option, Some, None, IfSome, slice_index, sum_by, nat_lt, ◌&&◌, Result, Ok, Err, IfOk, IsErrOf, min}
+use Rattle.std.specs.Prelude.{Option, Some, None, IfSome, slice_index, sum_by, nat_lt, Result, Ok, Err, IfOk, IsErrOf, min}
 use Rattle.std.specs.Option.{is_some}
+use Rattle.std.proofs.Math.Bool.{and-false}
 use Rattle.std.proofs.lemmas.List.{append-nil}
 use Rattle.tk_status.specs.declared.Status.{Status}
 use Rattle.tk_model.specs.declared.record.Action.{Action}
@@ -74,14 +75,10 @@ still_told None b A B le go x = tt
 still_told (Some f) (Some g) A B le go x = go x
 still_told (Some f) None A B le go x = absurd (omega (arith, le))
 
-and_false : (b : Bool) → (b && false) ≡ false
-and_false true = refl
-and_false false = refl
-
 -- there was room for what was made
 room_is : {D T : Type 0} (s : PlainStore D) (cs : List Change) (v : T) (size : ℕ) → size ≡ log_end s.log → TellsFullOfChanges {T = T} (plain_nature s) (plain_shown s) cs (Ok v)
     → is_over size (sum_by (extent_of 1) cs) (2 ^ 40) cs ≡ false
-room_is s [] v size e told = and_false (nat_lt (2 ^ 40) (size + 0))
+room_is s [] v size e told = and-false (nat_lt (2 ^ 40) (size + 0))
 room_is s (c ∷ cs) v size e told = ap (λ (n : ℕ). is_over n (sum_by (extent_of 1) (c ∷ cs)) (2 ^ 40) (c ∷ cs)) e ∙ told.store
 
 -- there was none where the store was full
