@@ -1,6 +1,8 @@
+pub mod CallSteps
 pub mod Endings
 pub mod GetEndings
 pub mod Names
+pub mod PlainKeeps
 pub mod PlainLoops
 pub mod PlainSteps
 pub mod Printing

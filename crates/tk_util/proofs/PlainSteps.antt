@@ -1,8 +1,7 @@
 -- The text of a file with a group more, and with another closing part.
-use Rattle.std.proofs.Common.{◌≡◌, ℕ, suc, ◌+◌, ◌*◌, ◌≤◌, ◌^◌, List, [], ◌∷◌, ◌++◌, length, take, drop, refl, sym, ◌∙◌, ap, subst, arith, length-append, append_assoc}
-use Rattle.std.proofs.lemmas.List.{append-nil, take_at, drop_at, drop_all}
+use Rattle.std.proofs.Common.{◌≡◌, ℕ, ◌+◌, List, [], ◌∷◌, ◌++◌, length, take, drop, refl, sym, ◌∙◌, ap, arith, length-append, append_assoc}
+use Rattle.std.proofs.lemmas.List.{append-nil, take_at, drop_at}
 use Rattle.tk_model.specs.declared.record.Group.{Group}
-use Rattle.tk_model.specs.declared.record.Change.{Change}
 use Rattle.tk_model.specs.declared.record.Order.TheVariants.{Hash}
 use Rattle.tk_model.specs.Records.{replay}
 use Rattle.tk_disk.specs.Disk.{put_at}
@@ -19,13 +18,13 @@ use Rattle.tk_append.specs.Log.{blocks_of, closed_text}
 use Rattle.tk_append.specs.LogParts.{with_closing}
 use Rattle.tk_util.specs.Plain.{text_of}
 
-front : StaticHead → Closing → List ℕ
+abbrev front : StaticHead → Closing → List ℕ
 front h c = static_text h ++ closing_text c
 
 length-front : (h : StaticHead) (c : Closing) → length (front h c) ≡ 64
 length-front h c = omega (arith, length-append (static_text h) (closing_text c), length-static_text h, length-closing_text c)
 
-block_texts : StaticHead → List Group → List ℕ
+abbrev block_texts : StaticHead → List Group → List ℕ
 block_texts h groups = texts (blocks_of h groups) (links_of h.p [] (blocks_of h groups))
 
 pub length-text_of : (h : StaticHead) (c : Closing) (groups : List Group) → length (text_of h c groups) ≡ end_of (base_of h.p) (bodies_of groups)

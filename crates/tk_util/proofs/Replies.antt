@@ -36,7 +36,7 @@ module _ {P : Type 0} (acts : P → List ℕ → Option (List ℕ) → Action) (
   }
 
   done_of : (writable : Bool) (f : List ℕ) (new : P) (after : Option (List ℕ)) (r : Result Status Stop) (s : Status)
-      → IfOk r (Made acts turns writable f key old new after) → (r ≡ Err Full → NoRoom acts turns writable f key old after)
+      → IfOk r (Made acts turns writable f key old new after) → (r ≡ Err Full → NoRoom acts writable f key old after)
       → ((place : ℕ) → r ≡ Err (Refused place) → RefusedAt writable f place × (after ≡ Some f)) → (r ≡ Err NoMemory → after ≡ Some f)
       → ((was : Option (List ℕ)) → new ≡ turns old key was → s ≡ (reply was).status) → CallDone writable reply key f after (with_status r s)
   done_of writable f new after (Ok v) s made full refused memory status = (value_in made.holds.groups key, made_is writable f new after v made, status (value_in made.holds.groups key) made.made.turned)
@@ -53,7 +53,7 @@ module _ {P : Type 0} (acts : P → List ℕ → Option (List ℕ) → Action) (
 
   -- the call, where the disk tells
   pub called_done : (o : Option (List ℕ)) (writable : Bool) (new : P) (after : Option (List ℕ)) (r a : Result Status Stop) (s : Status)
-      → IfSome o (λ f. IfOk r (Made acts turns writable f key old new after)) → IfSome o (λ f. r ≡ Err Full → NoRoom acts turns writable f key old after)
+      → IfSome o (λ f. IfOk r (Made acts turns writable f key old new after)) → IfSome o (λ f. r ≡ Err Full → NoRoom acts writable f key old after)
       → IfSome o (λ f. (place : ℕ) → r ≡ Err (Refused place) → RefusedAt writable f place × (after ≡ Some f)) → IfSome o (λ f. r ≡ Err NoMemory → after ≡ Some f)
       → ((was : Option (List ℕ)) → new ≡ turns old key was → s ≡ (reply was).status) → a ≡ with_status r s
       → IfSome o (λ f. CallDone writable reply key f after a)

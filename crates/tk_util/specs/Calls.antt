@@ -3,7 +3,6 @@ use Rattle.std.specs.Prelude.{◌≡◌, ℕ, ◌+◌, ◌^◌, Bool, true, fals
 use Rattle.tk_model.specs.Records.{find, replay}
 use Rattle.tk_model.specs.Entries.{group_of}
 use Rattle.tk_model.specs.declared.record.Order.TheVariants.{Hash}
-use Rattle.tk_model.specs.declared.record.Pair.{Pair}
 use Rattle.tk_model.specs.declared.record.Group.{Group}
 use Rattle.tk_model.specs.declared.record.Action.{Action}
 use Rattle.tk_model.specs.declared.record.Change.{Change}
@@ -44,14 +43,15 @@ module _ {P : Type 0} (acts : P → List ℕ → Option (List ℕ) → Action) (
     pub room : passes (closed_text h groups next) (call_changes acts old key (replay Hash groups [])) ≡ false
     pub after_is : after ≡ Some (called_file writable h groups next (call_changes acts old key (replay Hash groups [])))
 
+  pub record Made (writable : Bool) (f key : List ℕ) (old new : P) (after : Option (List ℕ)) (status : Status) : Type 0 where
+    pub holds : Holds writable f
+    pub made : MadeOn holds.head holds.groups holds.next writable key old new after status
+
+module _ {P : Type 0} (acts : P → List ℕ → Option (List ℕ) → Action) where
   -- there was no room for it
   pub record NoRoomOn (h : StaticHead) (groups : List Group) (next : ℕ) (key : List ℕ) (old : P) (after : Option (List ℕ)) : Type 0 where
     pub full : passes (closed_text h groups next) (call_changes acts old key (replay Hash groups [])) ≡ true
     pub after_is : after ≡ Some (closed_text h groups next)
-
-  pub record Made (writable : Bool) (f key : List ℕ) (old new : P) (after : Option (List ℕ)) (status : Status) : Type 0 where
-    pub holds : Holds writable f
-    pub made : MadeOn holds.head holds.groups holds.next writable key old new after status
 
   pub record NoRoom (writable : Bool) (f key : List ℕ) (old : P) (after : Option (List ℕ)) : Type 0 where
     pub holds : Holds writable f

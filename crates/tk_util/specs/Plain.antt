@@ -1,5 +1,5 @@
 -- A store over a group log, with its records in memory.
-use Rattle.std.specs.Prelude.{◌≡◌, ◌≢◌, ℕ, ◌+◌, ◌≤◌, ◌^◌, Bool, true, false, List, [], ◌∷◌, ◌++◌, length, MatchOption, Option, Some, None, IfSome, sum_by}
+use Rattle.std.specs.Prelude.{◌≡◌, ◌≢◌, ℕ, ◌+◌, ◌≤◌, ◌^◌, true, false, List, [], ◌++◌, length, MatchOption, Option, Some, None, IfSome, sum_by}
 use Rattle.tk_model.specs.Records.{after, replay, Rising, AllFit, AllHeld}
 use Rattle.tk_model.specs.declared.record.Order.TheVariants.{Hash}
 use Rattle.tk_model.specs.declared.record.Group.{Group}
@@ -33,6 +33,11 @@ opening groups = record { records = replay Hash groups []; held = Groups groups 
 abbrev pub floor_of : (next : ℕ) → Option ℕ → ℕ
 floor_of next None = next
 floor_of next (Some n) = n + 1
+
+-- the moment of a store: 1 where its disk tells what it holds, which no call changes
+abbrev pub told_moment : (image : Option (List ℕ)) → ℕ
+told_moment None = 0
+told_moment (Some f) = 1
 
 module _ {D : Type 0} where
   -- the names that contracts call its parts
@@ -75,6 +80,7 @@ module _ {D : Type 0} where
 
   pub record PlainPrepared (s : PlainStore D) (cs : List Change) : Type 0 where
     pub fit : AllFit cs
+    pub may : s.writable ≡ false → cs ≡ []
     pub staged : MatchOption s.staged (cs ≡ []) (IsStaged s cs)
 
   pub record PlainStands (image : D → Option (List ℕ)) (s : PlainStore D) (first : First) (since : List Group) (hard : ℕ) : Type 0 where

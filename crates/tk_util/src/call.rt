@@ -1,10 +1,8 @@
 //! One call on a file.
-ghost use Rattle.std.specs.Prelude.{◌≡◌, ◌⊎◌, ◌+◌, ◌-◌, ◌<◌, ◌≤◌, ◌^◌, ◌++◌, ℕ, List, [], length, true, false, Option, IfOk, IfSome, OnOk, OnErr, Some, Err, if◌then◌else◌};
+ghost use Rattle.std.specs.Prelude.{◌≡◌, ◌⊎◌, ◌-◌, ◌<◌, ◌≤◌, ◌^◌, ◌++◌, ℕ, List, [], length, true, false, Option, IfOk, IfSome, OnOk, OnErr, Some, Err, if◌then◌else◌};
 ghost use Rattle.std.specs.Option.{is_some};
 ghost use Rattle.tk_model.specs.declared.record.Action.TheVariants.{Keep};
 ghost use Rattle.tk_model.specs.declared.record.Group.{Group};
-ghost use Rattle.tk_model.specs.declared.record.Order.TheVariants.{Hash};
-ghost use Rattle.tk_model.specs.Records.{replay};
 ghost use Rattle.tk_disk.specs.Disk.{Rose};
 ghost use Rattle.tk_append.specs.Log.{closed_text};
 ghost use Rattle.tk_store.specs.Store.{IsWhole};
@@ -24,9 +22,7 @@ use tk_store::{SeqStore, StoreError, run_on};
 #[derive(Clone, Copy, Debug, PartialEq, Eq)]
 pub(crate) enum Stop {
     /// The file is no hash file: the first place that fails.
-    Refused {
-        place: u64,
-    },
+    Refused { place: u64 },
     /// The file would pass the limit.
     Full,
     Fault,
@@ -51,6 +47,66 @@ fn unopened(cause: OpenError) -> Stop
     }
 }
 
+/// Closes the store behind its call.
+fn end_call<D: Disk>(store: &mut PlainStore<D>, next: u64) -> Result<(), Stop>
+    requires whole { IsWhole (PlainStands D.image) store.old }
+    requires open { (plain_shown store.old).closed ≡ false }
+    requires number { (plain_nature store.old).writable ≡ true → (plain_shown store.old).floor ≤ next }
+    requires below { (plain_nature store.old).writable ≡ true → next < 2 ^ 64 - 1 }
+    ensures file { (groups since : List Group) (hard : ℕ) → PlainStands D.image store.old (opening groups) since hard
+        → OnOk result (IfSome (D.image (plain_disk store.old)) (λ _. D.image (plain_disk store.new)
+        ≡ Some (if (plain_nature store.old).writable then closed_text (plain_head store.old) (groups ++ since) next else closed_text (plain_head store.old) groups (plain_nature store.old).next))) }
+    ensures stops { (stop : Stopped) → result ≡ Err stop → stop ≡ Stop.Fault }
+    ensures later { D.fault_count (plain_disk store.old) ≤ D.fault_count (plain_disk store.new) }
+    ensures fault { OnErr result (Rose (D.fault_count (plain_disk store.old)) (D.fault_count (plain_disk store.new))) }
+    ensures told { is_some (D.image (plain_disk store.new)) ≡ is_some (D.image (plain_disk store.old)) }
+{
+    match store.close(next) {
+        Ok(()) => Ok(()),
+        Err(_) => Err(Stop::Fault),
+    }
+}
+
+/// Makes a call under the store's next number, and closes the store unless it failed.
+fn call_on<D: Disk, P: RecordProcessor>(
+    alloc: Global,
+    store: &mut PlainStore<D>,
+    key: &[u8],
+    p: &mut P,
+) -> Result<Status, Stop>
+    requires key { length key.now ≤ 65535 }
+    requires begun { (groups : List Group) × PlainStands D.image store.old (opening groups) [] 0 }
+    requires open { (plain_shown store.old).closed ≡ false }
+    requires low { (plain_nature store.old).writable ≡ true → (plain_nature store.old).next ≤ 2 ^ 62 }
+    requires may { ((was : Option (List ℕ)) → P.acts p.old key.now was ≡ Keep) ⊎ ((plain_nature store.old).writable ≡ true) }
+    ensures made { (groups : List Group) → PlainStands D.image store.old (opening groups) [] 0 → IfSome (D.image (plain_disk store.old)) (λ _.
+        IfOk result (MadeOn P.acts P.turns (plain_head store.old) groups (plain_nature store.old).next (plain_nature store.old).writable key.now p.old p.new (D.image (plain_disk store.new)))) }
+    ensures no_room { (groups : List Group) → PlainStands D.image store.old (opening groups) [] 0 → IfSome (D.image (plain_disk store.old)) (λ _.
+        result ≡ Err Stop.Full → NoRoomOn P.acts (plain_head store.old) groups (plain_nature store.old).next key.now p.old (D.image (plain_disk store.new))) }
+    ensures no_memory { (groups : List Group) → PlainStands D.image store.old (opening groups) [] 0 → IfSome (D.image (plain_disk store.old)) (λ _.
+        result ≡ Err Stop.NoMemory → D.image (plain_disk store.new) ≡ Some (closed_text (plain_head store.old) groups (plain_nature store.old).next)) }
+    ensures taken { (place : ℕ) → result ≡ Err (Stop.Refused place) → ⊥ }
+    ensures later { D.fault_count (plain_disk store.old) ≤ D.fault_count (plain_disk store.new) }
+    ensures fault { result ≡ Err Stop.Fault → Rose (D.fault_count (plain_disk store.old)) (D.fault_count (plain_disk store.new)) }
+{
+    let next = store.next_number();
+    match run_on(alloc, store, next, key, p) {
+        Ok(status) => {
+            end_call(store, next.saturating_add(1))?;
+            Ok(status)
+        }
+        Err(StoreError::Full { .. }) => {
+            end_call(store, next)?;
+            Err(Stop::Full)
+        }
+        Err(StoreError::NoMemory) => {
+            end_call(store, next)?;
+            Err(Stop::NoMemory)
+        }
+        Err(StoreError::Fault) => Err(Stop::Fault),
+    }
+}
+
 /// One call of a processor on the record of a key, under the file's next number. A file that is only read stays as it is.
 pub(crate) fn run_call<D: Disk, P: RecordProcessor>(
     alloc: Global,
@@ -62,14 +118,24 @@ pub(crate) fn run_call<D: Disk, P: RecordProcessor>(
     requires key { length key.now ≤ 65535 }
     requires may { ((was : Option (List ℕ)) → P.acts p.old key.now was ≡ Keep) ⊎ (writable ≡ true) }
     ensures made { IfSome (D.image disk) (λ f. IfOk result.answer (Made P.acts P.turns writable f key.now p.old p.new (D.image result.disk))) }
-    ensures no_room { IfSome (D.image disk) (λ f. result.answer ≡ Err Stop.Full → NoRoom P.acts P.turns writable f key.now p.old (D.image result.disk)) }
+    ensures no_room { IfSome (D.image disk) (λ f. result.answer ≡ Err Stop.Full → NoRoom P.acts writable f key.now p.old (D.image result.disk)) }
     ensures refused { IfSome (D.image disk) (λ f. (place : ℕ) → result.answer ≡ Err (Stop.Refused place) → RefusedAt writable f place × (D.image result.disk ≡ Some f)) }
     ensures no_memory { IfSome (D.image disk) (λ f. result.answer ≡ Err Stop.NoMemory → D.image result.disk ≡ Some f) }
     ensures later { D.fault_count disk ≤ D.fault_count result.disk }
     ensures fault { result.answer ≡ Err Stop.Fault → Rose (D.fault_count disk) (D.fault_count result.disk) }
 {
+    let mut store = match PlainStore::open(alloc, disk, writable) {
+        Ok(store) => store,
+        Err(refused) => {
+            return Called {
+                disk: refused.disk,
+                answer: Err(unopened(refused.cause)),
+            };
+        }
+    };
+    let answer = call_on(alloc, &mut store, key, p);
     Called {
-        disk,
-        answer: Err(Stop::NoMemory),
+        disk: store.into_disk(),
+        answer,
     }
 }

@@ -1,18 +1,18 @@
 //! A store over a file of groups, with all its records in memory.
 ghost use Rattle.std.specs.Prelude.{◌≡◌, ◌≢◌, ◌+◌, ◌≤◌, ◌^◌, ◌++◌, ◌==◌, ◌&&◌, ◌∷◌, not, nat_lt, ℕ, List, [], length, true, false, IfOk, IfErr, IfSome, OnOk, OnErr, Some, None, Ok, Err, sum_by};
 ghost use Rattle.std.specs.Option.{is_some, option_map};
-ghost use Rattle.tk_model.specs.Records.{after, replay, AllFit};
+ghost use Rattle.tk_model.specs.Records.{after, AllFit};
 ghost use Rattle.tk_model.specs.declared.record.Order.TheVariants.{Hash};
 ghost use Rattle.tk_model.specs.declared.record.Group.{Group};
 ghost use Rattle.tk_model.specs.declared.record.Change.{Change as Changed};
 ghost use Rattle.tk_disk.specs.Disk.{Rose, HasCause, put_at};
-ghost use Rattle.tk_store.specs.Store.{extent_of as change_extent, Groups, IsWhole, Keeps};
+ghost use Rattle.tk_store.specs.Store.{extent_of as change_extent, First, IsWhole, Keeps, OkOrFault, HasCause as StoreCause};
 ghost use Rattle.tk_block.specs.Text.{base_of};
 ghost use Rattle.tk_block.specs.Blocks.{group_bodies};
 ghost use Rattle.tk_block.specs.Layout.{group_text, end_of};
 ghost use Rattle.tk_append.specs.Pieces.{words_text};
 ghost use Rattle.tk_append.specs.Opening.{first_fault};
-ghost use Rattle.tk_append.specs.Log.{Tells, closed_text};
+ghost use Rattle.tk_append.specs.Log.{Tells, IsRead, closed_text};
 ghost use Rattle.tk_append.specs.LogParts.{log_disk, log_head, log_end, IsReady};
 ghost use Rattle.tk_util.specs.Plain.{alone, plain_disk, plain_head, plain_nature, plain_shown, IsStaged, PlainStands, opening};
 
@@ -136,11 +136,7 @@ pub(crate) fn put_group<D: Disk>(
 
 impl<D: Disk> PlainStore<D> {
     /// Opens a file of kind 1. A writable opening makes it durable that the file is open.
-    pub(crate) fn open(
-        alloc: Global,
-        disk: D,
-        writable: bool,
-    ) -> Result<PlainStore<D>, Unopened<D>>
+    pub(crate) fn open(alloc: Global, disk: D, writable: bool) -> Result<PlainStore<D>, Unopened<D>>
         ensures exact { IfSome (D.image disk) (λ f. Tells result (first_fault (1 ∷ []) writable alone f)) }
         ensures opened { IfOk result (λ s. (groups : List Group) × PlainStands D.image s (opening groups) [] 0
             × IfSome (D.image disk) (λ f. f ≡ closed_text (plain_head s) groups (plain_nature s).next)) }
@@ -154,21 +150,46 @@ impl<D: Disk> PlainStore<D> {
         ensures fault { IfErr result (λ u. u.cause ≡ OpenError.Fault → Rose (D.fault_count disk) (D.fault_count u.disk)) }
         ensures later { IfErr result (λ u. D.fault_count disk ≤ D.fault_count u.disk) }
     {
+        let read = match read_log(alloc, disk, &[1], writable, ShardOf { index: 0, of: 1 }) {
+            Ok(read) => read,
+            Err(unopened) => return Err(unopened),
+        };
+        let mut store = PlainStore::of_file(alloc, read, writable);
+        if !writable {
+            return Ok(store);
+        }
+        match store.begin() {
+            Ok(()) => Ok(store),
+            Err(_) => Err(Unopened {
+                cause: OpenError::Fault,
+                disk: store.into_disk(),
+            }),
+        }
+    }
+
+    /// The store over a file that was read.
+    fn of_file(alloc: Global, read: ReadLog<D>, writable: bool) -> PlainStore<D>
+        ensures stands { (groups : List Group) → IsRead (log_head read.log) (log_end read.log) read.records read.heads.items read.next groups
+            → IfSome (D.image (log_disk read.log)) (λ f. f ≡ closed_text (log_head read.log) groups read.next)
+            → PlainStands D.image result (opening groups) [] 0 }
+        ensures disk { plain_disk result ≡ log_disk read.log }
+        ensures head { plain_head result ≡ log_head read.log }
+        ensures next { (plain_nature result).next ≡ read.next }
+        ensures writable { (plain_nature result).writable ≡ writable }
+        ensures open { (plain_shown result).closed ≡ false }
+    {
         let ReadLog {
             log,
             records,
             heads,
             next,
-        } = match read_log(alloc, disk, &[1], writable, ShardOf { index: 0, of: 1 }) {
-            Ok(read) => read,
-            Err(unopened) => return Err(unopened),
-        };
+        } = read;
         let closing = Closing {
             size: log.end(),
             count: records.len() as u64,
             next,
         };
-        let mut store = PlainStore {
+        PlainStore {
             alloc,
             log,
             records,
@@ -179,14 +200,27 @@ impl<D: Disk> PlainStore<D> {
             last: None,
             writable,
             closed: false,
-        };
-        if writable && store.log.mark_open().is_err() {
-            return Err(Unopened {
-                cause: OpenError::Fault,
-                disk: store.into_disk(),
-            });
         }
-        Ok(store)
+    }
+
+    /// Makes it durable that the file is open.
+    fn begin(&mut self) -> Result<(), DiskError>
+        requires whole { IsWhole (PlainStands D.image) self.old }
+        ensures stands { (plain_nature self.old).writable ≡ true → (first : First) (since : List Group) (hard : ℕ) → PlainStands D.image self.old first since hard
+            → OnOk result (PlainStands D.image self.new first since hard) }
+        ensures head { plain_head self.new ≡ plain_head self.old }
+        ensures nature { plain_nature self.new ≡ plain_nature self.old }
+        ensures shown { plain_shown self.new ≡ plain_shown self.old }
+        ensures told { is_some (D.image (plain_disk self.new)) ≡ is_some (D.image (plain_disk self.old)) }
+        ensures cause { HasCause (D.fault_count (plain_disk self.old)) (D.fault_count (plain_disk self.new)) result }
+    {
+        self.log.mark_open()?;
+        self.closing = Closing {
+            size: 0,
+            count: 0,
+            next: 0,
+        };
+        Ok(())
     }
 
     pub(crate) fn into_disk(self) -> D
@@ -220,7 +254,13 @@ impl<D: Disk> PlainStore<D> {
         ensures disk { plain_disk self.new ≡ plain_disk self.old }
     {
         let p = self.log.head().p;
-        let plan = plan_group(self.alloc, p, &self.heads, self.log.end(), changes.as_slice())?;
+        let plan = plan_group(
+            self.alloc,
+            p,
+            &self.heads,
+            self.log.end(),
+            changes.as_slice(),
+        )?;
         let text = text_of_heads(self.alloc, &plan.heads)?;
         let records = records_after(&self.records, changes.as_slice())?;
         self.log.prepare(changes, &plan.links)?;
@@ -229,5 +269,51 @@ impl<D: Disk> PlainStore<D> {
             heads: plan.heads,
             text,
         })
+    }
+
+    /// Writes the group that was staged, under this number.
+    pub(crate) fn put_staged(&mut self, number: u64, staged: Staged) -> Result<(), StoreError>
+        requires whole { IsWhole (PlainStands D.image) self.old }
+        requires staged { (changes : List Changed) × IsStaged self.old changes staged }
+        ensures stands { (changes : List Changed) → IsStaged self.old changes staged → AllFit changes → (plain_nature self.old).writable ≡ true
+            → (first : First) (since : List Group) (hard : ℕ) → PlainStands D.image self.old first since hard
+            → OnOk result (PlainStands D.image self.new first (since ++ record { number = number; changes = changes } ∷ []) hard) }
+        ensures shown { OnOk result (plain_shown self.new ≡ record (plain_shown self.old) { map = Some staged.records; size = log_end self.new.log; floor = number + 1 }) }
+        ensures nature { plain_nature self.new ≡ plain_nature self.old }
+        ensures open { (plain_shown self.new).closed ≡ (plain_shown self.old).closed }
+        ensures told { is_some (D.image (plain_disk self.new)) ≡ is_some (D.image (plain_disk self.old)) }
+        ensures taken { D.taken_count (plain_disk self.new) ≡ D.taken_count (plain_disk self.old) }
+        ensures cause { StoreCause (D.fault_count (plain_disk self.old)) (D.fault_count (plain_disk self.new)) result }
+        ensures answers { OkOrFault result }
+    {
+        told(put_group(&mut self.log, number, staged.text.as_slice()))?;
+        self.records = staged.records;
+        self.heads = staged.heads;
+        self.last = Some(number);
+        Ok(())
+    }
+
+    /// Makes it durable that the file is closed, with this next number.
+    pub(crate) fn end_file(&mut self, next: u64) -> Result<(), StoreError>
+        requires whole { IsWhole (PlainStands D.image) self.old }
+        ensures stands { (plain_nature self.old).writable ≡ true → (first : First) (since : List Group) (hard : ℕ) → PlainStands D.image self.old first since hard
+            → OnOk result (PlainStands D.image self.new first since (length since)) }
+        ensures file { (groups since : List Group) (hard : ℕ) → PlainStands D.image self.old (opening groups) since hard
+            → OnOk result (IfSome (D.image (plain_disk self.old)) (λ _. D.image (plain_disk self.new) ≡ Some (closed_text (plain_head self.old) (groups ++ since) next))) }
+        ensures told { is_some (D.image (plain_disk self.new)) ≡ is_some (D.image (plain_disk self.old)) }
+        ensures nature { plain_nature self.new ≡ plain_nature self.old }
+        ensures shown { plain_shown self.new ≡ plain_shown self.old }
+        ensures taken { D.taken_count (plain_disk self.new) ≡ D.taken_count (plain_disk self.old) }
+        ensures cause { StoreCause (D.fault_count (plain_disk self.old)) (D.fault_count (plain_disk self.new)) result }
+        ensures answers { OkOrFault result }
+    {
+        let count = self.records.len() as u64;
+        told(self.log.close_log(count, next))?;
+        self.closing = Closing {
+            size: self.log.end(),
+            count,
+            next,
+        };
+        Ok(())
     }
 }

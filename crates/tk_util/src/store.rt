@@ -1,9 +1,11 @@
-ghost use Rattle.std.specs.Prelude.{◌≡◌, IfOk, OnOk, true};
-ghost use Rattle.std.specs.Option.{option_copied};
+ghost use Rattle.std.specs.Prelude.{◌≡◌, ◌≤◌, ◌<◌, ◌-◌, ◌^◌, ◌++◌, ℕ, List, [], length, IfOk, IfSome, OnOk, Some, true, false, if◌then◌else◌};
+ghost use Rattle.std.specs.Option.{is_some, option_copied};
+ghost use Rattle.tk_model.specs.declared.record.Group.{Group};
+ghost use Rattle.tk_store.specs.Store.{First, made, HasCause, NeverFull, OkOrFault, IsWhole, LeavesSafe};
+ghost use Rattle.tk_append.specs.Log.{closed_text};
 
-use crate::plain::{PlainStore, is_over, need_of, put_group, told};
+use crate::plain::{PlainStore, is_over, need_of, told};
 use std::alloc::Global;
-use tk_block::Closing;
 use tk_disk::Disk;
 use tk_model::{Bound, Bytes, ChangeList, NoMemory, Order, Pair};
 use tk_store::{SeqStore, StoreError};
@@ -22,7 +24,7 @@ fn copied_pair(found: Option<&Pair>) -> Result<Option<Pair>, NoMemory>
 
 impl<D: Disk> SeqStore for PlainStore<D> {
     ghost use Rattle.std.specs.Prelude.{true, Bool};
-    ghost use Rattle.tk_util.specs.Plain.{plain_disk, plain_closing, plain_nature, plain_shown, PlainStands, PlainPrepared};
+    ghost use Rattle.tk_util.specs.Plain.{plain_disk, plain_head, plain_nature, plain_shown, told_moment, PlainStands, PlainPrepared, opening};
 
     ghost nature = { plain_nature };
 
@@ -32,7 +34,7 @@ impl<D: Disk> SeqStore for PlainStore<D> {
 
     ghost prepared = { PlainPrepared };
 
-    ghost moment = { λ s. 0 };
+    ghost moment = { λ s. told_moment (D.image (plain_disk s)) };
 
     ghost safe = { λ s t first groups n. Unit {0} };
 
@@ -148,14 +150,10 @@ impl<D: Disk> SeqStore for PlainStore<D> {
     }
 
     fn apply_reserved(&mut self, number: u64) -> Result<(), StoreError> {
-        let Some(staged) = self.staged.take() else {
-            return Ok(());
-        };
-        told(put_group(&mut self.log, number, staged.text.as_slice()))?;
-        self.records = staged.records;
-        self.heads = staged.heads;
-        self.last = Some(number);
-        Ok(())
+        match self.staged.take() {
+            Some(staged) => self.put_staged(number, staged),
+            None => Ok(()),
+        }
     }
 
     fn sync(&mut self, hard: bool) -> Result<(), StoreError> {
@@ -165,16 +163,32 @@ impl<D: Disk> SeqStore for PlainStore<D> {
         Ok(())
     }
 
-    fn close(&mut self, next: u64) -> Result<(), StoreError> {
+    fn close(&mut self, next: u64) -> Result<(), StoreError>
+        requires whole { IsWhole (PlainStands D.image) self.old }
+        requires open { (plain_shown self.old).closed ≡ false }
+        requires number { (plain_nature self.old).writable ≡ true → (plain_shown self.old).floor ≤ next }
+        requires below { (plain_nature self.old).writable ≡ true → next < 2 ^ 64 - 1 }
+        ensures stands { (first : First) (since : List Group) (hard : ℕ) → PlainStands D.image self.old first since hard
+            → OnOk result (PlainStands D.image self.new first (since ++ made (plain_nature self.old) next []) (length (since ++ made (plain_nature self.old) next []))) }
+        ensures map { OnOk result ((plain_shown self.new).map ≡ (plain_shown self.old).map) }
+        ensures since { (t n : ℕ) (first : First) (since : List Group) (hard : ℕ) → PlainStands D.image self.old first since hard
+            → OnOk result (PlainStands D.image self.new first (since ++ made (plain_nature self.old) next []) (length (since ++ made (plain_nature self.old) next []))) }
+        ensures safe { LeavesSafe (λ s t n. PlainStands D.image s) (λ s t first groups n. Unit {0}) (made (plain_nature self.old) next []) self.old self.new }
+        ensures nature { plain_nature self.new ≡ plain_nature self.old }
+        ensures closed { (plain_shown self.new).closed ≡ true }
+        ensures time { told_moment (D.image (plain_disk self.old)) ≤ told_moment (D.image (plain_disk self.new)) }
+        ensures taken { D.taken_count (plain_disk self.old) ≤ D.taken_count (plain_disk self.new) }
+        ensures cause { HasCause (D.fault_count (plain_disk self.old)) (D.fault_count (plain_disk self.new)) result }
+        ensures never { NeverFull result }
+        ensures answers { OkOrFault result }
+        ensures file { (groups since : List Group) (hard : ℕ) → PlainStands D.image self.old (opening groups) since hard
+            → OnOk result (IfSome (D.image (plain_disk self.old)) (λ _. D.image (plain_disk self.new)
+            ≡ Some (if (plain_nature self.old).writable then closed_text (plain_head self.old) (groups ++ since) next else closed_text (plain_head self.old) groups (plain_nature self.old).next))) }
+        ensures told { is_some (D.image (plain_disk self.new)) ≡ is_some (D.image (plain_disk self.old)) }
+    {
         self.closed = true;
         if self.writable {
-            let count = self.records.len() as u64;
-            told(self.log.close_log(count, next))?;
-            self.closing = Closing {
-                size: self.log.end(),
-                count,
-                next,
-            };
+            self.end_file(next)?;
         }
         Ok(())
     }

@@ -1,8 +1,6 @@
-use Rattle.std.proofs.Common.{◌≡◌, ℕ, ◌+◌, ◌∷◌, List, drop, sym, ◌∙◌, ap, arith, true}
-use Rattle.std.specs.Prelude.{sum_by}
+use Rattle.std.proofs.Common.{◌≡◌, ◌+◌, ◌∷◌, drop, sym, ◌∙◌, ap, true}
 use Rattle.std.proofs.lemmas.List.{drop_more}
 use Rattle.tk_model.specs.declared.record.Change.{Change}
-use Rattle.tk_store.specs.Store.{extent_of}
 use Rattle.tk_util.proofs.PlainLoops.{same_extent, fit_rest, sum_more}
 use Rattle.tk_util.proofs.plain.need_of.Goals as goal
 

@@ -1,4 +1,4 @@
-use Rattle.std.proofs.Common.{◌≡◌, ℕ, ◌++◌, drop}
+use Rattle.std.proofs.Common.{◌≡◌, ◌++◌, drop}
 use Rattle.tk_append.specs.Pieces.{words_text}
 use Rattle.tk_util.proofs.plain.text_of_heads.Given as goal
 

@@ -1,6 +1,5 @@
-use Rattle.std.proofs.Common.{◌≡◌, ℕ, ◌+◌, ◌≤◌, ◌++◌, List, sym, ◌∙◌, ap, subst, arith}
+use Rattle.std.proofs.Common.{◌≡◌, List, sym, ◌∙◌, ap, arith}
 use Rattle.tk_model.specs.declared.record.Change.{Change}
-use Rattle.tk_append.specs.Chains.{HeadsAre}
 use Rattle.tk_block.specs.declared.head.StaticHead.{StaticHead}
 use Rattle.tk_append.specs.LogParts.{log_head, log_end}
 use Rattle.tk_util.proofs.plain.PlainStore.stage.Given as Given

@@ -1,0 +1,203 @@
+-- One call on a file: the file that it leaves, and the room for it.
+use Rattle.std.proofs.Common.{◌≡◌, ℕ, ◌+◌, ◌-◌, ◌≤◌, ◌^◌, Bool, true, false, inl, inr, List, [], ◌∷◌, ◌++◌, length, refl, sym, ◌∙◌, ap, subst, arith, if◌then◌else◌}
+use Rattle.std.specs.Prelude.{Option, Some, None, IfSome, slice_index, sum_by, nat_lt, Result, Ok, Err, IfOk, IsErrOf, min}
+use Rattle.std.specs.Option.{is_some}
+use Rattle.std.proofs.Math.Bool.{and-false}
+use Rattle.std.proofs.lemmas.List.{append-nil}
+use Rattle.tk_status.specs.declared.Status.{Status}
+use Rattle.tk_model.specs.declared.record.Action.{Action}
+use Rattle.tk_model.specs.declared.record.Pair.{Pair}
+use Rattle.tk_model.specs.declared.record.Group.{Group}
+use Rattle.tk_model.specs.declared.record.Change.{Change}
+use Rattle.tk_model.specs.declared.record.Order.TheVariants.{Hash}
+use Rattle.tk_model.specs.Records.{find, replay}
+use Rattle.tk_model.specs.Entries.{group_of}
+use Rattle.tk_proc.specs.Runs.{short_status}
+use Rattle.tk_block.specs.declared.head.StaticHead.{StaticHead}
+use Rattle.tk_block.specs.Text.{static_text, static_front, closing_text, base_of}
+use Rattle.tk_block.specs.Layout.{laid, links_of, end_of, texts, bodies_of, heads_text, file_text}
+use Rattle.tk_block.proofs.Lengths.{length-file_text}
+use Rattle.tk_store.specs.Store.{Held, Groups, Blocks, Pages, Records, Nature, OkOrFault, UnlessFault, is_over, extent_of}
+use Rattle.tk_store.specs.OneRecord.{call_changes, TellsFullOfChanges}
+use Rattle.tk_store.specs.declared.error.StoreError.{StoreError}
+use Rattle.tk_store.specs.declared.error.StoreError.TheVariants as errors
+use Rattle.tk_append.specs.Log.{closed_text}
+use Rattle.tk_append.specs.LogParts.{log_end}
+use Rattle.tk_append.specs.Opening.{first_fault}
+use Rattle.tk_util.specs.declared.plain.PlainStore.{PlainStore}
+use Rattle.tk_util.specs.declared.call.Stop.{Stop}
+use Rattle.tk_util.specs.declared.call.Stop.TheVariants.{Full}
+use Rattle.tk_util.specs.Plain.{alone, PlainStands, opening, told_moment, plain_disk, plain_head, plain_nature, plain_shown}
+use Rattle.tk_util.specs.Calls.{Made, MadeOn, NoRoom, NoRoomOn, passes}
+
+-- the file of a header by its text and its p
+abbrev file_by : (text : List ℕ) (p : ℕ) → List Group → (count next : ℕ) → List ℕ
+file_by text p groups count next =
+    (text ++ closing_text (record { size = end_of (base_of p) (bodies_of groups); count = count; next = next }))
+    ++ (heads_text p (laid (base_of p) (bodies_of groups)) ++ texts (laid (base_of p) (bodies_of groups)) (links_of p [] (laid (base_of p) (bodies_of groups))))
+
+same_p : (a b : StaticHead) → static_text a ≡ static_text b → a.p ≡ b.p
+unfolding static_text static_front
+same_p a b e = ap (λ (l : List ℕ). slice_index l 10) e
+
+by_text : (h : StaticHead) (groups : List Group) (next : ℕ) → closed_text h groups next ≡ file_by (static_text h) h.p groups (length (replay Hash groups [])) next
+unfolding file_text static_text
+by_text h groups next = refl
+
+-- headers of one text have one file
+pub same_closed : (a b : StaticHead) (groups : List Group) (next : ℕ) → static_text a ≡ static_text b → closed_text a groups next ≡ closed_text b groups next
+same_closed a b groups next e =
+    by_text a groups next
+    ∙ (ap (λ (t : List ℕ). file_by t a.p groups (length (replay Hash groups [])) next) e
+    ∙ (ap (λ (p : ℕ). file_by (static_text b) p groups (length (replay Hash groups [])) next) (same_p a b e)
+    ∙ sym (by_text b groups next)))
+
+-- the file that a call leaves
+pub file_after : (v w : Bool) (g h : StaticHead) (groups since more : List Group) (n next closes : ℕ) → v ≡ w → static_text g ≡ static_text h → n ≡ next → (w ≡ true → closes ≡ next + 1) → since ≡ more
+    → (if v then closed_text g (groups ++ since) closes else closed_text g groups n) ≡ (if w then closed_text h (groups ++ more) (next + 1) else closed_text h groups next)
+file_after v true g h groups since more n next closes a b c d e =
+    ap (λ (x : Bool). if x then closed_text g (groups ++ since) closes else closed_text g groups n) a
+    ∙ (ap (λ (k : ℕ). closed_text g (groups ++ since) k) (d refl)
+    ∙ (ap (λ (l : List Group). closed_text g (groups ++ l) (next + 1)) e ∙ same_closed g h (groups ++ more) (next + 1) b))
+file_after v false g h groups since more n next closes a b c d e =
+    ap (λ (x : Bool). if x then closed_text g (groups ++ since) closes else closed_text g groups n) a ∙ (ap (λ (k : ℕ). closed_text g groups k) c ∙ same_closed g h groups next b)
+
+-- the file that a call leaves that was not made
+pub file_kept : (v : Bool) (g h : StaticHead) (groups : List Group) (n next closes : ℕ) → static_text g ≡ static_text h → n ≡ next → closes ≡ next
+    → (if v then closed_text g (groups ++ []) closes else closed_text g groups n) ≡ closed_text h groups next
+file_kept true g h groups n next closes b c d =
+    ap (λ (l : List Group). closed_text g l closes) (append-nil groups) ∙ (ap (λ (k : ℕ). closed_text g groups k) d ∙ same_closed g h groups next b)
+file_kept false g h groups n next closes b c d = ap (λ (k : ℕ). closed_text g groups k) c ∙ same_closed g h groups next b
+
+-- what is known where a disk tells its bytes after a call is known where it told them before
+pub still_told : (a b : Option (List ℕ)) (A B : Type 0) → told_moment a ≤ told_moment b → (A → B) → IfSome b (λ f. A) → IfSome a (λ f. B)
+still_told None b A B le go x = tt
+still_told (Some f) (Some g) A B le go x = go x
+still_told (Some f) None A B le go x = absurd (omega (arith, le))
+
+-- there was room for what was made
+room_is : {D T : Type 0} (s : PlainStore D) (cs : List Change) (v : T) (size : ℕ) → size ≡ log_end s.log → TellsFullOfChanges {T = T} (plain_nature s) (plain_shown s) cs (Ok v)
+    → is_over size (sum_by (extent_of 1) cs) (2 ^ 40) cs ≡ false
+room_is s [] v size e told = and-false (nat_lt (2 ^ 40) (size + 0))
+room_is s (c ∷ cs) v size e told = ap (λ (n : ℕ). is_over n (sum_by (extent_of 1) (c ∷ cs)) (2 ^ 40) (c ∷ cs)) e ∙ told.store
+
+-- there was none where the store was full
+over_is : {D : Type 0} (T : Type 0) (s : PlainStore D) (cs : List Change) (a n l size : ℕ) → size ≡ log_end s.log → TellsFullOfChanges {T = T} (plain_nature s) (plain_shown s) cs (Err (errors.Full a n l))
+    → is_over size (sum_by (extent_of 1) cs) (2 ^ 40) cs ≡ true
+over_is T s [] a n l size e told = absurd told
+over_is T s (c ∷ cs) a n l size e (inl x) =
+    ap (λ (k : ℕ). is_over k (sum_by (extent_of 1) (c ∷ cs)) (2 ^ 40) (c ∷ cs)) (e ∙ sym x.size_is)
+    ∙ (ap (λ (k : ℕ). is_over a k (2 ^ 40) (c ∷ cs)) (sym x.need_is) ∙ (ap (λ (k : ℕ). is_over a n k (c ∷ cs)) (sym x.limit_is) ∙ x.over))
+over_is T s (c ∷ cs) a n l size e (inr x) = absurd x
+
+abbrev groups_in : Held → List Group
+groups_in (Groups groups) = groups
+groups_in (Blocks blocks) = []
+groups_in (Pages pages) = []
+groups_in Records = []
+
+-- the file is as long as the store says
+size_is : {D : Type 0} (image : D → Option (List ℕ)) (s : PlainStore D) (groups : List Group) → PlainStands image s (opening groups) [] 0 → length (closed_text (plain_head s) groups s.next) ≡ log_end s.log
+size_is image s groups st =
+    length-file_text (plain_head s) groups (length (replay Hash groups [])) s.next
+    ∙ (ap (λ (l : List Group). end_of (base_of (plain_head s).p) (bodies_of l)) (ap groups_in st.held ∙ sym (append-nil st.groups)) ∙ sym st.end_is)
+
+-- a call was not made, and the store then closed
+pub kept_on : {D : Type 0} (image : D → Option (List ℕ)) (s t u : PlainStore D) (groups : List Group) (number : ℕ) (R : Type 0) → plain_nature t ≡ plain_nature s → number ≡ s.next
+    → told_moment (image (plain_disk s)) ≤ told_moment (image (plain_disk t))
+    → IfSome (image (plain_disk t)) (λ f. image (plain_disk u) ≡ Some (if t.writable then closed_text (plain_head t) (groups ++ []) number else closed_text (plain_head t) groups t.next))
+    → (image (plain_disk u) ≡ Some (closed_text (plain_head s) groups s.next) → R)
+    → IfSome (image (plain_disk s)) (λ f. R)
+kept_on image s t u groups number R same numbered time file go =
+    still_told _ _ _ _ time (λ after. go (after ∙ ap Some (file_kept t.writable (plain_head t) (plain_head s) groups t.next s.next number
+    (ap (λ (n : Nature). n.header) same) (ap (λ (n : Nature). n.next) same) numbered))) file
+
+-- a call was made, and the store then closed
+pub made_on : {D P : Type 0} (image : D → Option (List ℕ)) (acts : P → List ℕ → Option (List ℕ) → Action) (turns : P → List ℕ → Option (List ℕ) → P) (s t u : PlainStore D) (key : List ℕ) (p q : P) (groups : List Group) (number closes : ℕ) (status : Status)
+    → PlainStands image s (opening groups) [] 0 → status ≡ short_status (acts p key (find key s.records)) → q ≡ turns p key (find key s.records)
+    → TellsFullOfChanges {T = Status} (plain_nature s) (plain_shown s) (call_changes acts p key s.records) (Ok status)
+    → plain_nature t ≡ plain_nature s → number ≡ s.next → (s.writable ≡ true → closes ≡ s.next + 1)
+    → told_moment (image (plain_disk s)) ≤ told_moment (image (plain_disk t))
+    → IfSome (image (plain_disk t)) (λ f. image (plain_disk u) ≡ Some (if t.writable then closed_text (plain_head t) (groups ++ group_of number (call_changes acts p key s.records)) closes else closed_text (plain_head t) groups t.next))
+    → IfSome (image (plain_disk s)) (λ f. MadeOn acts turns (plain_head s) groups s.next s.writable key p q (image (plain_disk u)) status)
+made_on image acts turns s t u key p q groups number closes status st is turned full same numbered closed time file =
+    let e : s.records ≡ replay Hash groups [] = st.records_now in
+    still_told _ _ _ _ time (λ after. record {
+      status_is = is ∙ ap (λ (m : List Pair). short_status (acts p key (find key m))) e;
+      turned = turned ∙ ap (λ (m : List Pair). turns p key (find key m)) e;
+      room = subst (λ (m : List Pair). passes (closed_text (plain_head s) groups s.next) (call_changes acts p key m) ≡ false) e
+          (room_is s (call_changes acts p key s.records) status (length (closed_text (plain_head s) groups s.next)) (size_is image s groups st) full);
+      after_is = after ∙ ap Some (file_after t.writable s.writable (plain_head t) (plain_head s) groups
+          (group_of number (call_changes acts p key s.records)) (group_of s.next (call_changes acts p key (replay Hash groups []))) t.next s.next closes
+          (ap (λ (n : Nature). n.writable) same) (ap (λ (n : Nature). n.header) same) (ap (λ (n : Nature). n.next) same) closed
+          (ap (λ (n : ℕ). group_of n (call_changes acts p key s.records)) numbered ∙ ap (λ (m : List Pair). group_of s.next (call_changes acts p key m)) e));
+    }) file
+
+-- there was no room for a call
+pub no_room_on : {D P : Type 0} (image : D → Option (List ℕ)) (acts : P → List ℕ → Option (List ℕ) → Action) (s u : PlainStore D) (key : List ℕ) (p : P) (groups : List Group) (e : StoreError) (a n l : ℕ) → e ≡ errors.Full a n l
+    → PlainStands image s (opening groups) [] 0
+    → TellsFullOfChanges {T = Status} (plain_nature s) (plain_shown s) (call_changes acts p key s.records) (Err e)
+    → image (plain_disk u) ≡ Some (closed_text (plain_head s) groups s.next)
+    → NoRoomOn acts (plain_head s) groups s.next key p (image (plain_disk u))
+no_room_on image acts s u key p groups e a n l is st full after =
+    let same : s.records ≡ replay Hash groups [] = st.records_now in
+    record {
+      full = subst (λ (m : List Pair). passes (closed_text (plain_head s) groups s.next) (call_changes acts p key m) ≡ true) same
+          (over_is Status s (call_changes acts p key s.records) a n l (length (closed_text (plain_head s) groups s.next)) (size_is image s groups st)
+          (subst (λ (y : StoreError). TellsFullOfChanges {T = Status} (plain_nature s) (plain_shown s) (call_changes acts p key s.records) (Err y)) is full));
+      after_is = after;
+    }
+
+-- what is no want of memory and not full is a fault
+pub fault_only : (T R : Type 0) (e : StoreError) → OkOrFault {T = T} (Err e) → (IsErrOf {T = T} (Err e) errors.Fault → R) → R
+fault_only T R errors.Fault only go = go refl
+fault_only T R (errors.Full a n l) only go = absurd only
+fault_only T R errors.NoMemory only go = absurd only
+
+-- a full store answers no fault, and so does one that wants memory
+pub full_tells : (T R : Type 0) (e : StoreError) (a n l : ℕ) → e ≡ errors.Full a n l → UnlessFault {T = T} (Err e) R → R
+full_tells T R e a n l is x = subst (λ (y : StoreError). UnlessFault {T = T} (Err y) R) is x
+
+pub memory_tells : (T R : Type 0) (e : StoreError) → e ≡ errors.NoMemory → UnlessFault {T = T} (Err e) R → R
+memory_tells T R e is x = subst (λ (y : StoreError). UnlessFault {T = T} (Err y) R) is x
+
+-- the next number is one more
+pub one_more : (next number closes : ℕ) → number ≡ next → next ≤ 2 ^ 62 → closes ≡ min (number + 1) (2 ^ 64 - 1) → closes ≡ next + 1
+one_more next number closes is low e = omega (arith, is, low, e)
+
+-- a disk that tells its bytes goes on to
+pub tells_on : (old new : Option (List ℕ)) → is_some new ≡ is_some old → told_moment old ≤ told_moment new
+tells_on None new same = omega arith
+tells_on (Some f) (Some g) same = omega arith
+tells_on (Some f) None same = absurd (cc same)
+
+known : (o : Option (List ℕ)) (R : Type 0) → is_some o ≡ true → IfSome o (λ f. R) → R
+known (Some f) R same x = x
+known None R same x = absurd (cc same)
+
+-- the groups of a store that was opened, with the file that it was opened on
+abbrev pub Opened : {D : Type 0} (image : D → Option (List ℕ)) → PlainStore D → Option (List ℕ) → Type 0
+Opened image s a = (groups : List Group) × PlainStands image s (opening groups) [] 0 × IfSome a (λ f. f ≡ closed_text (plain_head s) groups s.next)
+
+-- a call on the file that was opened
+pub made_at : {D P : Type 0} (image : D → Option (List ℕ)) (acts : P → List ℕ → Option (List ℕ) → Action) (turns : P → List ℕ → Option (List ℕ) → P) (a : Option (List ℕ)) (s : PlainStore D) (u v : D) (w : Bool) (key : List ℕ) (p q : P) (answer : Result Status Stop)
+    → IfSome a (λ f. first_fault (1 ∷ []) w alone f ≡ None) → Opened image s a → s.writable ≡ w → is_some (image (plain_disk s)) ≡ is_some a → v ≡ u
+    → ((groups : List Group) → PlainStands image s (opening groups) [] 0 → IfSome (image (plain_disk s)) (λ f. IfOk answer (MadeOn acts turns (plain_head s) groups s.next s.writable key p q (image u))))
+    → IfSome a (λ f. IfOk answer (Made acts turns w f key p q (image v)))
+made_at image acts turns None s u v w key p q answer accepted opened mode told same made = tt
+made_at image acts turns (Some f) s u v w key p q (Err stop) accepted opened mode told same made = tt
+made_at {D = D} image acts turns (Some f) s u v w key p q (Ok status) accepted opened mode told same made = record {
+  holds = record { accepted = accepted; head = plain_head s; groups = opened.0; next = s.next; file = opened.2 };
+  made = subst (λ (x : D). MadeOn acts turns (plain_head s) opened.0 s.next w key p q (image x) status) (sym same)
+      (subst (λ (b : Bool). MadeOn acts turns (plain_head s) opened.0 s.next b key p q (image u) status) mode (known (image (plain_disk s)) _ told (made opened.0 opened.1)));
+}
+
+pub no_room_at : {D P : Type 0} (image : D → Option (List ℕ)) (acts : P → List ℕ → Option (List ℕ) → Action) (a : Option (List ℕ)) (s : PlainStore D) (u v : D) (w : Bool) (key : List ℕ) (p : P) (answer : Result Status Stop)
+    → IfSome a (λ f. first_fault (1 ∷ []) w alone f ≡ None) → Opened image s a → is_some (image (plain_disk s)) ≡ is_some a → v ≡ u
+    → ((groups : List Group) → PlainStands image s (opening groups) [] 0 → IfSome (image (plain_disk s)) (λ f. answer ≡ Err Full → NoRoomOn acts (plain_head s) groups s.next key p (image u)))
+    → IfSome a (λ f. answer ≡ Err Full → NoRoom acts w f key p (image v))
+no_room_at image acts None s u v w key p answer accepted opened told same full = tt
+no_room_at {D = D} image acts (Some f) s u v w key p answer accepted opened told same full = λ is. record {
+  holds = record { accepted = accepted; head = plain_head s; groups = opened.0; next = s.next; file = opened.2 };
+  full = subst (λ (x : D). NoRoomOn acts (plain_head s) opened.0 s.next key p (image x)) (sym same) (known (image (plain_disk s)) _ told (full opened.0 opened.1) is);
+}
