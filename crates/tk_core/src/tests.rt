@@ -32,3 +32,17 @@ fn no_store_is_taken_out_without_its_lock(rt: HostRuntime) {
     let mut core = Core::new(rt.alloc(), 1, 16, Order::Hash).expect(&rt, "a new core");
     assert!(rt; core.take_out(0, 0).is_ok_and(|done| !done));
 }
+
+#[test]
+fn locks_are_taken_in_rising_order(rt: HostRuntime) {
+    let mut core = Core::new(rt.alloc(), 1, 16, Order::Hash).expect(&rt, "a new core");
+    assert!(rt; core.take(0, 3).is_ok_and(|done| done));
+    assert!(rt; core.take(0, 16).is_ok_and(|done| done));
+}
+
+#[test]
+fn no_lower_lock_is_taken(rt: HostRuntime) {
+    let mut core = Core::new(rt.alloc(), 1, 16, Order::Hash).expect(&rt, "a new core");
+    assert!(rt; core.take(0, 3).is_ok_and(|done| done));
+    assert!(rt; core.take(0, 2).is_ok_and(|done| !done));
+}

@@ -1,0 +1,98 @@
+//! The steps of locks and stores that come back, and the join of two callers.
+ghost use Rattle.std.specs.Prelude.{◌≡◌, ◌<◌, ◌++◌, ◌∷◌, ℕ, List, None, Some, cond, take, get_or, false, option_to_list, Decides, IfOk, IfErr};
+ghost use Rattle.tk_core.specs.Caller.{weight};
+ghost use Rattle.tk_model.specs.declared.record.Entry.{Entry};
+ghost use Rattle.tk_core.specs.Covers.{store_lock};
+ghost use Rattle.tk_core.specs.Needs.{MayTake};
+ghost use Rattle.tk_core.specs.Program.{IsAnswer, AnyCaller, caller_of, owner_of};
+ghost use Rattle.tk_core.specs.declared.moves.Move.TheVariants as moves;
+
+use crate::Core;
+use crate::machine::Row;
+use crate::steps::is_above;
+use tk_model::NoMemory;
+
+impl Core {
+    fn may_take(&self, caller: u32, lock: u32) -> bool
+        ensures { Decides result (AnyCaller self.now caller (MayTake self.now.frame (owner_of self.now) lock)) }
+    {
+        let at = caller as usize;
+        if at >= self.rows.len() {
+            return false;
+        }
+        let row = &self.rows[at];
+        if !row.live {
+            return false;
+        }
+        let place = lock as usize;
+        if place >= self.owners.len() {
+            return false;
+        }
+        if self.owners[place] != 0 {
+            return false;
+        }
+        if !row.weighs() {
+            return false;
+        }
+        is_above(lock, &row.held)
+    }
+
+    /// The store of the lock, where it is broken.
+    fn broken_store(&self, lock: u32) -> Option<u32>
+        ensures stripe { lock < self.now.frame.stripes → result ≡ None }
+        ensures store { (i : ℕ) → lock ≡ store_lock self.now.frame i → result ≡ cond (get_or self.now.spoilt i false) (Some i) None }
+    {
+        let store = lock.checked_sub(self.frame.stripes)?;
+        let is_broken = *self.spoilt.get(store as usize)?;
+        is_broken.then_some(store)
+    }
+
+    /// The caller holds the lock.
+    pub(crate) fn take(&mut self, caller: u32, lock: u32) -> Result<bool, NoMemory>
+        ensures answer { IfOk result (λ done. IsAnswer (moves.Take caller lock) self.old self.new done) }
+        ensures want { IfErr result (λ e. self.new ≡ self.old) }
+    {
+        if !self.may_take(caller, lock) {
+            return Ok(false);
+        }
+        let found = self.broken_store(lock);
+        let base = self.log.len();
+        self.rows[caller as usize].hold(lock, base, found)?;
+        self.owners[lock as usize] = caller as u64 + 1;
+        Ok(true)
+    }
+}
+
+impl Row {
+    /// Whether the row made a call or may make one.
+    #[tactic(auto, using(crate::proofs::LockRows::length_numbered))]
+    fn weighs(&self) -> bool
+        ensures { (log : List Entry) → Decides result (0 < weight (caller_of log self.now)) }
+    {
+        self.allowance > 0 || !self.mine.is_empty()
+    }
+
+    /// The row has the lock, wants none, and has met the store that was found broken.
+    fn hold(&mut self, lock: u32, base: usize, found: Option<u32>) -> Result<(), NoMemory>
+        ensures held { IfOk result (λ _. (log : List Entry) → caller_of log self.new ≡ record (caller_of log self.old) { held = lock ∷ self.old.held.items; want = None; base = take base log; met = option_to_list found ++ self.old.met.items }) }
+        ensures want { IfErr result (λ e. (log : List Entry) → caller_of log self.new ≡ caller_of log self.old) }
+    {
+        self.held.reserve(1)?;
+        put_first(&mut self.met, found)?;
+        self.held.insert(0, lock)?;
+        self.want = None;
+        self.base = base;
+        Ok(())
+    }
+}
+
+/// Puts the number, where there is one, before the list.
+fn put_first(list: &mut Vec<u32>, number: Option<u32>) -> Result<(), NoMemory>
+    ensures put { IfOk result (λ _. list.new.items ≡ option_to_list number ++ list.old.items) }
+    ensures want { IfErr result (λ e. list.new.items ≡ list.old.items) }
+{
+    if let Some(number) = number {
+        list.insert(0, number)?;
+    }
+    Ok(())
+}
