@@ -57,6 +57,10 @@ pub record MayGiveStore (f : Frame) (i : ℕ) (v : Caller) : Type 0 where
   pub holds : has (store_lock f i) v.held ≡ true
   pub home : has i v.out ≡ false
 
+-- give, of a lock
+abbrev pub MayGive : Frame → ℕ → Caller → Type 0
+MayGive f l v = (l < f.stripes → MayGiveStripe f l v) × ((i : ℕ) → l ≡ store_lock f i → MayGiveStore f i v)
+
 -- look
 abbrev pub MayLook : Caller → Type 0
 MayLook v = v.live ≡ true

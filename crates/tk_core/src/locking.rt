@@ -1,15 +1,18 @@
-//! The steps of locks and stores that come back, and the join of two callers.
+//! The steps that take and give locks, put stores back and join callers.
 ghost use Rattle.std.specs.Prelude.{◌≡◌, ◌<◌, ◌++◌, ◌∷◌, ℕ, List, None, Some, cond, take, get_or, false, option_to_list, Decides, IfOk, IfErr};
 ghost use Rattle.tk_core.specs.Caller.{weight};
 ghost use Rattle.tk_model.specs.declared.record.Entry.{Entry};
 ghost use Rattle.tk_core.specs.Covers.{store_lock};
-ghost use Rattle.tk_core.specs.Needs.{MayTake};
+ghost use Rattle.tk_core.specs.Lists.{has, without};
+ghost use Rattle.tk_core.specs.Moves.{gave_stripe, gave_store};
+ghost use Rattle.tk_core.specs.Needs.{MayTake, MayGive};
+ghost use Rattle.tk_core.specs.declared.frame.Frame.{Frame};
 ghost use Rattle.tk_core.specs.Program.{IsAnswer, AnyCaller, caller_of, owner_of};
 ghost use Rattle.tk_core.specs.declared.moves.Move.TheVariants as moves;
 
-use crate::Core;
 use crate::machine::Row;
-use crate::steps::is_above;
+use crate::steps::{holds, is_above};
+use crate::{Core, Frame};
 use tk_model::NoMemory;
 
 impl Core {
@@ -61,6 +64,30 @@ impl Core {
         self.owners[lock as usize] = caller as u64 + 1;
         Ok(true)
     }
+
+    fn may_give(&self, caller: u32, lock: u32) -> bool
+        ensures { Decides result (AnyCaller self.now caller (MayGive self.now.frame lock)) }
+    {
+        let at = caller as usize;
+        if at >= self.rows.len() {
+            return false;
+        }
+        self.rows[at].may_give(&self.frame, lock)
+    }
+
+    /// The lock is free.
+    pub(crate) fn give(&mut self, caller: u32, lock: u32) -> Result<bool, NoMemory>
+        ensures answer { IfOk result (λ done. IsAnswer (moves.Give caller lock) self.old self.new done) }
+        ensures want { IfErr result (λ e. self.new ≡ self.old) }
+    {
+        if !self.may_give(caller, lock) {
+            return Ok(false);
+        }
+        let store = lock.checked_sub(self.frame.stripes);
+        self.rows[caller as usize].give_up(lock, store)?;
+        self.owners[lock as usize] = 0;
+        Ok(true)
+    }
 }
 
 impl Row {
@@ -84,6 +111,46 @@ impl Row {
         self.base = base;
         Ok(())
     }
+
+    fn may_give(&self, frame: &Frame, lock: u32) -> bool
+        ensures { (log : List Entry) → Decides result (MayGive frame.now lock (caller_of log self.now)) }
+    {
+        if !self.live {
+            return false;
+        }
+        if !holds(&self.held, lock) {
+            return false;
+        }
+        let Some(store) = lock.checked_sub(frame.stripes) else {
+            return true;
+        };
+        store < frame.stores && !holds(&self.out, store)
+    }
+
+    /// A store that the row is breaking is among those that it broke.
+    fn settle(&mut self, store: u32) -> Result<(), NoMemory>
+        ensures settled { IfOk result (λ _. (log : List Entry) → caller_of log self.new ≡ record (caller_of log self.old) { breaking = without store self.old.breaking.items; broke = cond (has store self.old.breaking.items) (store ∷ self.old.broke.items) self.old.broke.items }) }
+        ensures want { IfErr result (λ e. (log : List Entry) → caller_of log self.new ≡ caller_of log self.old) }
+    {
+        let newly = holds(&self.breaking, store).then_some(store);
+        put_first(&mut self.broke, newly)?;
+        remove_all(&mut self.breaking, store);
+        Ok(())
+    }
+
+    /// The row has the lock no more, and wants none. The lock may be that of a store.
+    fn give_up(&mut self, lock: u32, store: Option<u32>) -> Result<(), NoMemory>
+        ensures stripe { store ≡ None → IfOk result (λ _. (log : List Entry) → caller_of log self.new ≡ gave_stripe lock (caller_of log self.old)) }
+        ensures store { (f : Frame) (i : ℕ) → store ≡ Some i → lock ≡ store_lock f i → IfOk result (λ _. (log : List Entry) → caller_of log self.new ≡ gave_store f i (caller_of log self.old)) }
+        ensures want { IfErr result (λ e. (log : List Entry) → caller_of log self.new ≡ caller_of log self.old) }
+    {
+        if let Some(store) = store {
+            self.settle(store)?;
+        }
+        remove_all(&mut self.held, lock);
+        self.want = None;
+        Ok(())
+    }
 }
 
 /// Puts the number, where there is one, before the list.
@@ -95,4 +162,11 @@ fn put_first(list: &mut Vec<u32>, number: Option<u32>) -> Result<(), NoMemory>
         list.insert(0, number)?;
     }
     Ok(())
+}
+
+/// Takes the number out of the list.
+fn remove_all(list: &mut Vec<u32>, number: u32)
+    ensures { list.new.items ≡ without number list.old.items }
+{
+    list.retain(|other| *other != number);
 }

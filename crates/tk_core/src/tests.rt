@@ -46,3 +46,11 @@ fn no_lower_lock_is_taken(rt: HostRuntime) {
     assert!(rt; core.take(0, 3).is_ok_and(|done| done));
     assert!(rt; core.take(0, 2).is_ok_and(|done| !done));
 }
+
+#[test]
+fn a_lock_that_was_given_is_free(rt: HostRuntime) {
+    let mut core = Core::new(rt.alloc(), 1, 16, Order::Hash).expect(&rt, "a new core");
+    assert!(rt; core.take(0, 16).is_ok_and(|done| done));
+    assert!(rt; core.give(0, 16).is_ok_and(|done| done));
+    assert!(rt; !core.miss(0, 16));
+}
