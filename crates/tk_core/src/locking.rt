@@ -1,11 +1,12 @@
 //! The steps that take and give locks, put stores back and join callers.
-ghost use Rattle.std.specs.Prelude.{◌≡◌, ◌<◌, ◌++◌, ◌∷◌, ℕ, List, None, Some, cond, take, get_or, false, option_to_list, Decides, IfOk, IfErr};
-ghost use Rattle.tk_core.specs.Caller.{weight};
+ghost use Rattle.std.specs.Prelude.{true, [], ◌+◌, ◌^◌, ◌≡◌, ◌≢◌, ◌<◌, ◌++◌, ◌∷◌, ℕ, List, None, Some, cond, take, get_or, false, option_to_list, Decides, IfOk, IfErr};
+ghost use Rattle.tk_core.specs.Caller.{weight, knows_broken};
+ghost use Rattle.std.specs.Bool.{then_some};
 ghost use Rattle.tk_model.specs.declared.record.Entry.{Entry};
 ghost use Rattle.tk_core.specs.Covers.{store_lock};
 ghost use Rattle.tk_core.specs.Lists.{has, without};
-ghost use Rattle.tk_core.specs.Moves.{gave_stripe, gave_store};
-ghost use Rattle.tk_core.specs.Needs.{MayTake, MayGive};
+ghost use Rattle.tk_core.specs.Moves.{gave_stripe, gave_store, put_back, joined, spent};
+ghost use Rattle.tk_core.specs.Needs.{MayTake, MayGive, MayPutBack};
 ghost use Rattle.tk_core.specs.declared.frame.Frame.{Frame};
 ghost use Rattle.tk_core.specs.Program.{IsAnswer, AnyCaller, caller_of, owner_of};
 ghost use Rattle.tk_core.specs.declared.moves.Move.TheVariants as moves;
@@ -13,6 +14,7 @@ ghost use Rattle.tk_core.specs.declared.moves.Move.TheVariants as moves;
 use crate::machine::Row;
 use crate::steps::{holds, is_above};
 use crate::{Core, Frame};
+use std::alloc::Global;
 use tk_model::NoMemory;
 
 impl Core {
@@ -43,7 +45,7 @@ impl Core {
     /// The store of the lock, where it is broken.
     fn broken_store(&self, lock: u32) -> Option<u32>
         ensures stripe { lock < self.now.frame.stripes → result ≡ None }
-        ensures store { (i : ℕ) → lock ≡ store_lock self.now.frame i → result ≡ cond (get_or self.now.spoilt i false) (Some i) None }
+        ensures store { (i : ℕ) → lock ≡ store_lock self.now.frame i → result ≡ then_some (get_or self.now.spoilt i false) i }
     {
         let store = lock.checked_sub(self.frame.stripes)?;
         let is_broken = *self.spoilt.get(store as usize)?;
@@ -86,6 +88,75 @@ impl Core {
         let store = lock.checked_sub(self.frame.stripes);
         self.rows[caller as usize].give_up(lock, store)?;
         self.owners[lock as usize] = 0;
+        Ok(true)
+    }
+
+    fn may_put_back(&self, caller: u32, store: u32, broken: bool) -> bool
+        ensures { Decides result (AnyCaller self.now caller (MayPutBack self.now.frame [] self.now.log (λ gs n. Unit {0}) store broken)) }
+    {
+        let at = caller as usize;
+        if at >= self.rows.len() {
+            return false;
+        }
+        if store >= self.frame.stores {
+            return false;
+        }
+        self.rows[at].may_put_back(store, broken)
+    }
+
+    /// The store is at home, whole or broken.
+    pub(crate) fn put_back(
+        &mut self,
+        caller: u32,
+        store: u32,
+        broken: bool,
+    ) -> Result<bool, NoMemory>
+        ensures answer { IfOk result (λ done. IsAnswer (moves.Back caller store broken) self.old self.new done) }
+        ensures want { IfErr result (λ e. self.new ≡ self.old) }
+    {
+        if !self.may_put_back(caller, store, broken) {
+            return Ok(false);
+        }
+        self.rows[caller as usize].bring_back(store, broken)?;
+        self.away[store as usize] = false;
+        self.spoilt[store as usize] = broken;
+        Ok(true)
+    }
+
+    /// Whether this is a live caller that holds no lock.
+    fn is_idle(&self, caller: u32) -> bool
+        ensures { Decides result (AnyCaller self.now caller (λ v. (v.live ≡ true) × (v.held ≡ []))) }
+    {
+        let at = caller as usize;
+        if at >= self.rows.len() {
+            return false;
+        }
+        let row = &self.rows[at];
+        if !row.live {
+            return false;
+        }
+        row.held.is_empty()
+    }
+
+    fn may_join(&self, caller: u32, other: u32) -> bool
+        ensures { Decides result ((caller ≢ other) × AnyCaller self.now caller (λ v. (v.live ≡ true) × (v.held ≡ [])) × AnyCaller self.now other (λ v. (v.live ≡ true) × (v.held ≡ []))) }
+    {
+        caller != other && self.is_idle(caller) && self.is_idle(other)
+    }
+
+    /// The caller has all that the other had.
+    pub(crate) fn join(&mut self, caller: u32, other: u32) -> Result<bool, NoMemory>
+        ensures answer { IfOk result (λ done. IsAnswer (moves.Join caller other) self.old self.new done) }
+        ensures want { IfErr result (λ e. self.new ≡ self.old) }
+    {
+        if !self.may_join(caller, other) {
+            return Ok(false);
+        }
+        let blank = Row::blank(*self.rows.allocator());
+        let mut gone = std::mem::replace(&mut self.rows[other as usize], blank);
+        let done = self.rows[caller as usize].absorb(&mut gone);
+        self.rows[other as usize] = gone;
+        done?;
         Ok(true)
     }
 }
@@ -149,6 +220,72 @@ impl Row {
         }
         remove_all(&mut self.held, lock);
         self.want = None;
+        Ok(())
+    }
+
+    /// Whether the row knows that the store is broken.
+    fn knows_broken(&self, store: u32) -> bool
+        ensures { (log : List Entry) → result ≡ knows_broken (caller_of log self.now) store }
+    {
+        holds(&self.met, store) || holds(&self.breaking, store)
+    }
+
+    fn may_put_back(&self, store: u32, broken: bool) -> bool
+        ensures { Decides result ((self.now.live ≡ true) × (has store self.now.out.items ≡ true) × (knows_broken (caller_of [] self.now) store ≡ true → broken ≡ true)) }
+    {
+        if !self.live {
+            return false;
+        }
+        if !holds(&self.out, store) {
+            return false;
+        }
+        broken || !self.knows_broken(store)
+    }
+
+    /// The store is with the row no more, and newly broken by it where it is broken and wasn't.
+    fn bring_back(&mut self, store: u32, broken: bool) -> Result<(), NoMemory>
+        ensures back { IfOk result (λ _. (log : List Entry) → caller_of log self.new ≡ put_back store broken (caller_of log self.old)) }
+        ensures want { IfErr result (λ e. (log : List Entry) → caller_of log self.new ≡ caller_of log self.old) }
+    {
+        let newly = broken && !self.knows_broken(store);
+        put_first(&mut self.breaking, newly.then_some(store))?;
+        remove_all(&mut self.out, store);
+        Ok(())
+    }
+
+    /// A row of nobody.
+    fn blank(alloc: Global) -> Row {
+        Row {
+            live: false,
+            allowance: 0,
+            held: Vec::new(alloc),
+            want: None,
+            out: Vec::new(alloc),
+            seen: 0,
+            base: 0,
+            mine: Vec::new(alloc),
+            breaking: Vec::new(alloc),
+            broke: Vec::new(alloc),
+            met: Vec::new(alloc),
+        }
+    }
+
+    /// The row has all that the other had, and the other nothing any more.
+    fn absorb(&mut self, other: &mut Row) -> Result<(), NoMemory>
+        requires room { self.old.allowance + other.old.allowance < 2 ^ 64 }
+        ensures joined { IfOk result (λ _. (log : List Entry) → (caller_of log self.new ≡ joined (caller_of log self.old) (caller_of log other.old)) × (caller_of log other.new ≡ spent (caller_of log other.old))) }
+        ensures want { IfErr result (λ e. (log : List Entry) → (caller_of log self.new ≡ caller_of log self.old) × (caller_of log other.new ≡ caller_of log other.old)) }
+    {
+        self.mine.reserve(other.mine.len())?;
+        self.broke.reserve(other.broke.len())?;
+        self.met.append(&mut other.met)?;
+        self.broke.append(&mut other.broke)?;
+        self.mine.append(&mut other.mine)?;
+        self.allowance += other.allowance;
+        self.seen = self.seen.max(other.seen);
+        other.live = false;
+        other.allowance = 0;
+        other.want = None;
         Ok(())
     }
 }
