@@ -18,7 +18,7 @@ use Rattle.tk_core.specs.declared.moves.Move.{Move}
 use Rattle.tk_core.specs.declared.moves.Move.TheVariants as moves
 use Rattle.tk_core.specs.declared.frame.Frame.{Frame}
 use Rattle.tk_core.specs.Moves.{took_stripe, took_store, gave_stripe, gave_store, put_back, joined, spent}
-use Rattle.tk_core.specs.Needs.{MayTake, MayGive, MayPutBack}
+use Rattle.tk_core.specs.Needs.{MayTake, MayGive, MayPutBack, IsIdle}
 use Rattle.tk_core.specs.Caller.{Caller, weight}
 use Rattle.tk_core.specs.Covers.{store_lock}
 use Rattle.tk_core.specs.Program.{CoreState, AnyCaller, owner_of, IsCore, caller_of, state_of, numbered}
@@ -128,10 +128,6 @@ module _ (f : Frame) (log : List Entry) (owners : List ℕ) (spoilt away : List 
         after = λ t. record { law = λ m. true; first = []; log = log; owner = λ z. get_or owners z 0; spoilt = λ z. put_set spoilt q b false low_spoilt z t; away = λ z. put_set away q false false low_away z t; stands = λ z. still_stands (z == q) t; callers = callers (put_back q b v) e t };
       }))
 
--- a live caller that holds no lock
-abbrev pub Idle : Caller → Type 0
-Idle v = (v.live ≡ true) × (v.held ≡ [])
-
 pub numbered_append : (log : List Entry) (xs ys : List ℕ) → numbered log (xs ++ ys) ≡ numbered log xs ++ numbered log ys
 numbered_append log [] ys = refl
 numbered_append log (x ∷ xs) ys = ap (λ ps. (x, get_or log x entries.Clear) ∷ ps) (numbered_append log xs ys)
@@ -174,12 +170,12 @@ module _ (f : Frame) (log : List Entry) (owners : List ℕ) (spoilt away : List 
   pair : (w x : Caller) → caller_of log new ≡ w → caller_of log left ≡ x → map (caller_of log) (set (set (set rows j blank) i new) j left) ≡ set (set (map (caller_of log) rows) i w) j x
   pair w x e g = ap (map (caller_of log)) (set_over rows i j blank new left apart) ∙ one_map (caller_of log) (set rows i new) j left x g ∙ ap (λ cs. set cs j x) (one_map (caller_of log) rows i new w e)
 
-  module _ (old : CoreState) (view : with_rows rows ≡ old) (ok : IsCore (with_rows rows)) (a : AnyCaller old i Idle) (b : AnyCaller old j Idle) where
-    first : AnyRow log rows i Idle
-    first = subst (λ (s : CoreState). AnyCaller s i Idle) (sym view) a
+  module _ (old : CoreState) (view : with_rows rows ≡ old) (ok : IsCore (with_rows rows)) (a : AnyCaller old i IsIdle) (b : AnyCaller old j IsIdle) where
+    first : AnyRow log rows i IsIdle
+    first = subst (λ (s : CoreState). AnyCaller s i IsIdle) (sym view) a
 
-    second : AnyRow log rows j Idle
-    second = subst (λ (s : CoreState). AnyCaller s j Idle) (sym view) b
+    second : AnyRow log rows j IsIdle
+    second = subst (λ (s : CoreState). AnyCaller s j IsIdle) (sym view) b
 
     in_first : i < length rows
     in_first = in_map (caller_of log) rows i first.0 first.1
@@ -210,8 +206,8 @@ module _ (f : Frame) (log : List Entry) (owners : List ℕ) (spoilt away : List 
     join_done e g =
         let v : Caller = caller_of log row in
         let u : Caller = caller_of log gone in
-        let p : Idle v = of_row log rows i row in_first is Idle first in
-        let q : Idle u = of_row log rows j gone in_second is_gone Idle second in
+        let p : IsIdle v = of_row log rows i row in_first is IsIdle first in
+        let q : IsIdle u = of_row log rows j gone in_second is_gone IsIdle second in
         subst (λ (s : CoreState). IsDone (moves.Join i j) s (with_rows (set (set (set rows j blank) i new) j left))) view
         (done (moves.Join i j) (with_rows rows) (with_rows (set (set (set rows j blank) i new) j left)) ok refl refl refl refl
         (record {

@@ -86,6 +86,10 @@ pub record MaySplit (callers : ℕ) (v : Caller) : Type 0 where
   pub live : v.live ≡ true
   pub held : v.held ≡ []
 
+-- a live caller that holds no lock
+abbrev pub IsIdle : Caller → Type 0
+IsIdle v = (v.live ≡ true) × (v.held ≡ [])
+
 -- join: of two callers, and neither holds a lock
 pub record MayJoin (i j : ℕ) (v u : Caller) : Type 0 where
   pub apart : i ≢ j

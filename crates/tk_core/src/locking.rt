@@ -6,7 +6,7 @@ ghost use Rattle.tk_model.specs.declared.record.Entry.{Entry};
 ghost use Rattle.tk_core.specs.Covers.{store_lock};
 ghost use Rattle.tk_core.specs.Lists.{has, without};
 ghost use Rattle.tk_core.specs.Moves.{gave_stripe, gave_store, put_back, joined, spent};
-ghost use Rattle.tk_core.specs.Needs.{MayTake, MayGive, MayPutBack};
+ghost use Rattle.tk_core.specs.Needs.{MayTake, MayGive, MayPutBack, IsIdle};
 ghost use Rattle.tk_core.specs.declared.frame.Frame.{Frame};
 ghost use Rattle.tk_core.specs.Program.{IsAnswer, AnyCaller, caller_of, owner_of};
 ghost use Rattle.tk_core.specs.declared.moves.Move.TheVariants as moves;
@@ -125,7 +125,7 @@ impl Core {
 
     /// Whether this is a live caller that holds no lock.
     fn is_idle(&self, caller: u32) -> bool
-        ensures { Decides result (AnyCaller self.now caller (λ v. (v.live ≡ true) × (v.held ≡ []))) }
+        ensures { Decides result (AnyCaller self.now caller IsIdle) }
     {
         let at = caller as usize;
         if at >= self.rows.len() {
@@ -139,7 +139,7 @@ impl Core {
     }
 
     fn may_join(&self, caller: u32, other: u32) -> bool
-        ensures { Decides result ((caller ≢ other) × AnyCaller self.now caller (λ v. (v.live ≡ true) × (v.held ≡ [])) × AnyCaller self.now other (λ v. (v.live ≡ true) × (v.held ≡ []))) }
+        ensures { Decides result ((caller ≢ other) × AnyCaller self.now caller IsIdle × AnyCaller self.now other IsIdle) }
     {
         caller != other && self.is_idle(caller) && self.is_idle(other)
     }

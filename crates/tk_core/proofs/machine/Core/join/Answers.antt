@@ -1,29 +1,30 @@
 use Rattle.std.proofs.Common.{rules, ◌≡◌, sym, subst, get_or, ◌∙◌, arith}
 use Rattle.tk_core.specs.declared.machine.Row.{Row}
+use Rattle.tk_core.specs.Needs.{IsIdle}
 use Rattle.tk_core.specs.Program.{CoreState, AnyCaller, IsCore, caller_of}
 use Rattle.tk_core.proofs.Rows.{in_map}
-use Rattle.tk_core.proofs.LockRows.{Idle, join_room, join_kept, join_done}
+use Rattle.tk_core.proofs.LockRows.{join_room, join_kept, join_done}
 use Rattle.tk_core.proofs.machine.Core.join.Goals as goal
 
 pub index_mut-requires : goal.index_mut-requires
 index_mut-requires c =
     let may = c.may_join.ensures.0 (search rules) in
     let l = c.self.inside.rows.ok.0 in
-    let h = in_map (caller_of c.self.inside.log.items) c.self.inside.rows.items c.args.other _ (subst (λ (s : CoreState). AnyCaller s c.args.other Idle) (sym c.self.view_is) may.2).1 in
+    let h = in_map (caller_of c.self.inside.log.items) c.self.inside.rows.items c.args.other _ (subst (λ (s : CoreState). AnyCaller s c.args.other IsIdle) (sym c.self.view_is) may.2).1 in
     search rules
 
 pub index_mut-requires-2 : goal.index_mut-requires-2
 index_mut-requires-2 c =
     let may = c.may_join.ensures.0 (search rules) in
     let l = c.self.inside.rows.ok.0 in
-    let h = in_map (caller_of c.self.inside.log.items) c.self.inside.rows.items c.args.caller _ (subst (λ (s : CoreState). AnyCaller s c.args.caller Idle) (sym c.self.view_is) may.1).1 in
+    let h = in_map (caller_of c.self.inside.log.items) c.self.inside.rows.items c.args.caller _ (subst (λ (s : CoreState). AnyCaller s c.args.caller IsIdle) (sym c.self.view_is) may.1).1 in
     search rules
 
 pub index_mut-requires-3 : goal.index_mut-requires-3
 index_mut-requires-3 c =
     let may = c.may_join.ensures.0 (search rules) in
     let l = c.self.inside.rows.ok.0 in
-    let h = in_map (caller_of c.self.inside.log.items) c.self.inside.rows.items c.args.other _ (subst (λ (s : CoreState). AnyCaller s c.args.other Idle) (sym c.self.view_is) may.2).1 in
+    let h = in_map (caller_of c.self.inside.log.items) c.self.inside.rows.items c.args.other _ (subst (λ (s : CoreState). AnyCaller s c.args.other IsIdle) (sym c.self.view_is) may.2).1 in
     search rules
 
 pub absorb-done-requires : goal.absorb-done-requires
