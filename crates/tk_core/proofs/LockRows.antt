@@ -1,5 +1,5 @@
 -- What the rows of the program show where locks and stores pass, and callers are joined.
-use Rattle.std.proofs.Common.{◌≡◌, ℕ, zero, suc, ◌+◌, ◌-◌, ◌≢◌, ◌^◌, ◌<◌, ◌≤◌, ◌==◌, Bool, true, false, List, [], ◌∷◌, ◌++◌, Option, Some, None, map, length, set, get_or, take, refl, sym, ap, ◌∙◌, subst, arith, cond, filter, not, ltb, min, max, eq-eqb, ne_eqb, length-set}
+use Rattle.std.proofs.Common.{◌≡◌, ℕ, zero, suc, ◌+◌, ◌-◌, ◌≢◌, ◌^◌, ◌<◌, ◌≤◌, ◌==◌, Bool, true, false, List, [], ◌∷◌, ◌++◌, Option, None, map, length, set, get_or, take, refl, sym, ap, ◌∙◌, subst, arith, cond, filter, not, ltb, min, max, eq-eqb, ne_eqb, length-set}
 use mathlib.Core.Logic.{dite}
 use native.Mathlib.Decide.{dec_le}
 use Rattle.std.specs.Bool.{then_some}
@@ -14,15 +14,13 @@ use lib.ListN.{get_elem?}
 use Rattle.tk_model.specs.declared.record.Entry.TheVariants as entries
 use Rattle.tk_model.specs.declared.record.Group.{Group}
 use Rattle.tk_core.specs.declared.machine.Row.{Row}
-use Rattle.tk_core.specs.declared.moves.Move.{Move}
 use Rattle.tk_core.specs.declared.moves.Move.TheVariants as moves
 use Rattle.tk_core.specs.declared.frame.Frame.{Frame}
 use Rattle.tk_core.specs.Moves.{took_stripe, took_store, gave_stripe, gave_store, put_back, joined, spent}
 use Rattle.tk_core.specs.Needs.{MayTake, MayGive, MayPutBack, IsIdle}
 use Rattle.tk_core.specs.Caller.{Caller, weight}
 use Rattle.tk_core.specs.Covers.{store_lock}
-use Rattle.tk_core.specs.Program.{CoreState, AnyCaller, owner_of, IsCore, caller_of, state_of, numbered}
-use Rattle.tk_core.specs.States.{State, IsCaller, after_take_stripe, after_take_store}
+use Rattle.tk_core.specs.Program.{CoreState, AnyCaller, owner_of, IsCore, caller_of, numbered}
 use Rattle.tk_core.specs.Lists.{has, put, without}
 use Rattle.tk_core.proofs.Facts.{by_test, by_bool, total_two}
 use Rattle.tk_core.proofs.Rows.{IsDone, core, at_row, need, from_view, one_done, done, one_map, put_set, AnyRow, in_map, there, of_row, set_miss, set_again}

@@ -1,4 +1,4 @@
-use Rattle.std.proofs.Common.{rules, ◌≡◌, length, sym, subst, ◌∙◌}
+use Rattle.std.proofs.Common.{rules, sym, subst, ◌∙◌}
 use Rattle.tk_core.specs.Needs.{MayGive}
 use Rattle.tk_core.specs.Program.{CoreState, AnyCaller, IsCore, caller_of}
 use Rattle.tk_core.proofs.Rows.{in_map, unchanged}

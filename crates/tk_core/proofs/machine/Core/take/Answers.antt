@@ -1,6 +1,5 @@
 use Rattle.std.proofs.Common.{rules, ◌≡◌, ◌+◌, length, take, sym, subst, ◌∙◌, arith}
 use Rattle.std.proofs.lemmas.List.{take_all}
-use Rattle.tk_core.specs.declared.machine.Row.{Row}
 use Rattle.tk_core.specs.Needs.{MayTake}
 use Rattle.tk_core.specs.Program.{CoreState, AnyCaller, IsCore, caller_of, owner_of}
 use Rattle.tk_core.proofs.Rows.{in_map, unchanged}

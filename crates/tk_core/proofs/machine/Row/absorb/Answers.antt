@@ -1,4 +1,4 @@
-use Rattle.std.proofs.Common.{rules, false, None, ◌+◌, ◌++◌, take, refl, ap, ◌∙◌}
+use Rattle.std.proofs.Common.{false, None, ◌+◌, ◌++◌, take, refl, ap, ◌∙◌}
 use Rattle.tk_core.specs.Program.{caller_of, numbered}
 use Rattle.tk_core.proofs.LockRows.{numbered_append, longer_take}
 use Rattle.tk_core.proofs.machine.Row.absorb.Goals as goal

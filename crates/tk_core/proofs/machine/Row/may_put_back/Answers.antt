@@ -1,4 +1,4 @@
-use Rattle.std.proofs.Common.{rules, ◌≡◌, true, [], not, sym, subst, ap, ◌∙◌}
+use Rattle.std.proofs.Common.{◌≡◌, true, [], not, sym, subst, ap, ◌∙◌}
 use Rattle.tk_core.specs.Lists.{has}
 use Rattle.tk_core.proofs.Facts.{not_both, false_unless}
 use Rattle.tk_core.proofs.Rows.{not_true}
