@@ -1,4 +1,6 @@
 pub mod ChainsSteps
 pub mod FreshSteps
 pub mod Layouts
+pub mod NewestHeads
 pub mod PiecesSteps
+pub mod WalkerSteps

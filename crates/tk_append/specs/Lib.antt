@@ -4,3 +4,4 @@ pub mod Log
 pub mod LogParts
 pub mod Opening
 pub mod Pieces
+pub mod Walked

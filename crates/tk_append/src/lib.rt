@@ -4,10 +4,13 @@
 mod blocks;
 mod chains;
 mod fresh;
+mod hashed;
 mod log;
 mod pieces;
+mod walker;
 
 pub use fresh::write_fresh;
+pub use hashed::HashedRecords;
 pub use log::GroupLog;
 
 #[cfg(test)]

@@ -1,0 +1,99 @@
+-- A walk over blocks, block by block.
+use Rattle.std.proofs.Common.{◌≡◌, ℕ, zero, suc, ◌+◌, ◌-◌, ◌<◌, ◌≤◌, ◌^◌, Bool, true, false, cond, List, [], ◌∷◌, ◌++◌, length, get_or, take, drop, refl, sym, ◌∙◌, ap, subst, arith}
+use Rattle.std.specs.Prelude.{Option, Some, None, option_map, map, ◌==◌, ◌&&◌, ◌||◌, not, nat_le}
+use Rattle.std.proofs.lemmas.List.{drop_all, take_all, length-drop}
+use Rattle.std.proofs.lemmas.Bool.{eq-eqb}
+use Rattle.tk_model.specs.declared.error.OpenError.TheVariants.{BrokenAt}
+use Rattle.tk_block.specs.Layout.{Placed, link_of}
+use Rattle.tk_block.specs.Number.{u64_in}
+use Rattle.tk_append.specs.declared.walker.Standing.{Standing}
+use Rattle.tk_append.specs.declared.walker.Walker.{Walker}
+use Rattle.tk_model.specs.Records.{after, after_one}
+use Rattle.tk_model.specs.declared.record.Order.TheVariants.{Hash}
+use Rattle.tk_model.specs.declared.record.Pair.{Pair}
+use Rattle.tk_model.specs.declared.record.Change.{Change}
+use Rattle.std.proofs.lemmas.Bool.Decides.{nat_tests}
+use Rattle.tk_model.specs.declared.record.ShardOf.{ShardOf}
+use Rattle.tk_block.specs.declared.block.Body.{Body}
+use Rattle.tk_block.specs.declared.head.StaticHead.{StaticHead}
+use Rattle.tk_block.specs.Text.{head_at}
+use Rattle.tk_block.specs.Blocks.{said, body_at, body_text, body_in, check_in, is_body}
+use Rattle.tk_block.specs.Grammar.{Reads, FitsBody}
+use Rattle.tk_append.specs.Opening.{Walk, Outcome, FailsAt, walk_block, walked, may_stand, change_in, records_in, begun_by}
+use Rattle.tk_append.specs.Walked.{HasNone, HasBlock, MayFollow, Fails, IsAt, NewestIn, IsOfKind, least_behind, begun_at}
+
+no_body : (place : ℕ) → body_at [] place ≡ None
+unfolding body_at
+no_body place =
+    let short : nat_le (check_in [] + 4) 0 ≡ false = grind (arith, nat_tests) in
+    rw short refl
+
+none_after : (o : Option ℕ) (h : StaticHead) (shard : ShardOf) (w : Walk) (place : ℕ) (bytes : List ℕ) (go : Walk → ℕ → Outcome) → walk_block h shard w place bytes o None go ≡ FailsAt place
+none_after None h shard w place bytes go = refl
+none_after (Some e) h shard w place bytes go = refl
+
+pub none_body : (place : ℕ) (bytes : List ℕ) → body_at (drop 24 bytes) place ≡ None → HasNone place bytes
+none_body place bytes is h shard w go = ap (λ (b : Option Body). walk_block h shard w place bytes (head_at bytes place) b go) is ∙ none_after (head_at bytes place) h shard w place bytes go
+
+pub none_head : (place : ℕ) (bytes : List ℕ) → head_at bytes place ≡ None → HasNone place bytes
+none_head place bytes is h shard w go = ap (λ (o : Option ℕ). walk_block h shard w place bytes o (body_at (drop 24 bytes) place) go) is
+
+pub none_short : (place : ℕ) (bytes : List ℕ) → length bytes < 24 → HasNone place bytes
+none_short place bytes short = none_body place bytes (ap (λ (l : List ℕ). body_at l place) (drop_all 24 bytes (omega arith)) ∙ no_body place)
+
+pub value_small : (b : Body) → is_body b ≡ true → length b.value ≤ 33554431
+value_small b is = grind (arith, nat_tests)
+
+-- the slice from 24 on
+pub behind_link : (place : ℕ) (bytes : List ℕ) (o : Option Body) → body_at (take (length bytes - 24) (drop 24 bytes)) place ≡ o → body_at (drop 24 bytes) place ≡ o
+behind_link place bytes o is = ap (λ (l : List ℕ). body_at l place) (sym (take_all (length bytes - 24) (drop 24 bytes) (omega (arith, length-drop 24 bytes)))) ∙ is
+
+pub fails_head : (place : ℕ) (bytes : List ℕ) → HasNone place bytes → (h : StaticHead) (shard : ShardOf) (w : Walk) → Fails h shard w place bytes (BrokenAt place)
+fails_head place bytes none h shard w go = none h shard w go
+
+block_is : (h : StaticHead) (shard : ShardOf) (w : Walk) (place e : ℕ) (bytes : List ℕ) (b : Body) (go : Walk → ℕ → Outcome) → head_at bytes place ≡ Some e → body_at (drop 24 bytes) place ≡ Some b
+    → walk_block h shard w place bytes (head_at bytes place) (body_at (drop 24 bytes) place) go ≡ walk_block h shard w place bytes (Some e) (Some b) go
+block_is h shard w place e bytes b go head body =
+    ap (λ (o : Option ℕ). walk_block h shard w place bytes o (body_at (drop 24 bytes) place) go) head ∙ ap (λ (o : Option Body). walk_block h shard w place bytes (Some e) o go) body
+
+-- a block that may not stand there
+pub fails_stand : (h : StaticHead) (shard : ShardOf) (w : Walk) (place : ℕ) (bytes : List ℕ) (s : Standing) → HasBlock place bytes s → may_stand h shard w bytes s.extent (said s.block) ≡ false
+    → Fails h shard w place bytes (BrokenAt place)
+fails_stand h shard w place bytes s has not_so go =
+    block_is h shard w place s.extent bytes (said s.block) go has.head has.body ∙ rw not_so refl
+
+-- a block with another link
+pub fails_link : (h : StaticHead) (shard : ShardOf) (w : Walk) (place : ℕ) (bytes : List ℕ) (s : Standing) → HasBlock place bytes s → may_stand h shard w bytes s.extent (said s.block) ≡ true
+    → (u64_in bytes 16 == link_of h.p w.blocks (said s.block)) ≡ false → Fails h shard w place bytes (BrokenAt (place + 16))
+fails_link h shard w place bytes s has so other go =
+    block_is h shard w place s.extent bytes (said s.block) go has.head has.body ∙ rw (so, other) refl
+
+-- a block that follows
+pub goes_on : (h : StaticHead) (shard : ShardOf) (w : Walk) (place e : ℕ) (bytes : List ℕ) (b : Body) (go : Walk → ℕ → Outcome) → MayFollow h shard w place bytes e b
+    → walk_block h shard w place bytes (head_at bytes place) (body_at (drop 24 bytes) place) go ≡ go (walked w (record { place = place; body = b })) e
+goes_on h shard w place e bytes b go f =
+    block_is h shard w place e bytes b go f.head f.body ∙ rw (f.stands, eq-eqb _ _ f.linked) refl
+
+after_more : (blocks : List Placed) (x : Placed) (m : List Pair) → after Hash (map (λ (y : Placed). change_in y.body) (blocks ++ x ∷ [])) m ≡ after_one Hash (change_in x.body) (after Hash (map (λ (y : Placed). change_in y.body) blocks) m)
+after_more [] x m = refl
+after_more (y ∷ ys) x m = after_more ys x (after_one Hash (change_in y.body) m)
+
+-- the records with one block more
+pub records_more : (blocks : List Placed) (x : Placed) → records_in (blocks ++ x ∷ []) ≡ after_one Hash (change_in x.body) (records_in blocks)
+records_more blocks x = after_more blocks x []
+
+-- the walker behind one block more
+pub walked_on : (p place next : ℕ) (old headed new : Walker) (w : Walk) (b : Body) (change : Change) (records : List Pair)
+    → IsAt p place old w → change ≡ change_in b → records ≡ after_one Hash change old.records
+    → NewestIn p next headed.heads.items headed.cleared (w.blocks ++ record { place = place; body = b } ∷ []) → headed.records ≡ records → headed.before ≡ old.before → headed.begun ≡ old.begun
+    → new.heads.items ≡ headed.heads.items → new.cleared ≡ headed.cleared → new.records ≡ headed.records
+    → ((least : ℕ) → least ≡ least_behind headed.before → cond b.last (b.number + 1) least ≡ least_behind new.before)
+    → ((first : Option Placed) → headed.begun ≡ option_map begun_at first → new.begun ≡ option_map begun_at (begun_by first (record { place = place; body = b })))
+    → IsAt p next new (walked w (record { place = place; body = b }))
+walked_on p place next old headed new w b change records at is done heads kept before begun items cleared same least first = record {
+  heads = subst (λ (l : List ℕ). NewestIn p next l new.cleared (w.blocks ++ record { place = place; body = b } ∷ [])) (sym items)
+      (subst (λ (n : ℕ). NewestIn p next headed.heads.items n (w.blocks ++ record { place = place; body = b } ∷ [])) (sym cleared) heads);
+  records = same ∙ kept ∙ done ∙ ap (λ (c : Change). after_one Hash c old.records) is ∙ ap (after_one Hash (change_in b)) at.records ∙ sym (records_more w.blocks (record { place = place; body = b }));
+  least = least w.least (at.least ∙ ap least_behind (sym before));
+  begun = first w.begun (begun ∙ at.begun);
+}

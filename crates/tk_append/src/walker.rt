@@ -1,0 +1,223 @@
+ghost use Rattle.std.specs.Prelude.{◌≡◌, ◌≤◌, ◌<◌, ◌^◌, ◌+◌, ◌-◌, ℕ, List, length, take, drop, replicate, IfOk, OnOk, Some, MatchOption, MatchResult, nat_le, ◌&&◌, ◌==◌};
+ghost use Rattle.std.specs.Str.{bytes_eq};
+ghost use Rattle.tk_block.specs.Blocks.{IsSmall, body_at, said, extent_of, room_of};
+ghost use Rattle.tk_block.specs.Layout.{link_of, Placed};
+ghost use Rattle.tk_append.specs.Opening.{Walk, change_in, is_home, is_in_turn, is_padded, may_stand, walked};
+ghost use Rattle.tk_append.specs.Walked.{IsAt, MayFollow, Fails, NewestIn, HasNone, HasBlock, turn_in, living};
+
+use crate::hashed::HashedRecords;
+use std::alloc::Global;
+use tk_block::{Block, StaticHead, body_at, extent_of, read_head, u64_at};
+use tk_model::{Bytes, Change, NoMemory, OpenError, Pair, ShardOf, bucket, mix, shard};
+
+/// The first block of a group that is not complete.
+#[derive(Clone, Copy, Debug, PartialEq, Eq)]
+pub(crate) struct Begun {
+    pub place: u64,
+    pub number: u64,
+}
+
+/// What is known behind some of a file's blocks.
+#[derive(Drop)]
+pub(crate) struct Walker {
+    /// The newest block of each bucket. One in front of the last clear counts as none.
+    pub heads: Vec<u64>,
+    pub cleared: u64,
+    pub records: HashedRecords,
+    /// The number of the last complete group.
+    pub before: Option<u64>,
+    pub begun: Option<Begun>,
+}
+
+/// A block with its extent.
+#[derive(Clone, Copy)]
+pub(crate) struct Standing<'a> {
+    pub extent: u64,
+    pub block: Block<'a>,
+}
+
+/// The block at the front of bytes that lie at a place.
+fn block_at(bytes: &[u8], place: u64) -> Option<Standing<'_>>
+    ensures { MatchOption result (HasNone place bytes.now) (HasBlock place bytes.now) }
+{
+    if bytes.len() < 24 {
+        return None;
+    }
+    let extent = read_head(bytes, place)?;
+    let block = body_at(&bytes[24..], place)?;
+    Some(Standing { extent, block })
+}
+
+/// The bytes behind the body are zero.
+fn is_padded(bytes: &[u8], extent: u64, block: Block<'_>) -> bool
+    requires small { IsSmall block.key.now block.value.now }
+    requires extent { extent ≡ extent_of (said block) }
+    requires long { extent ≤ length bytes.now }
+    ensures { result ≡ is_padded bytes.now extent (said block.entry) }
+{
+    let room = 44 + block.key.len() + block.value.len();
+    let padding = &bytes[room..extent as usize];
+    padding == &[0; 8][..padding.len()]
+}
+
+/// The block lies within the bytes, has the least extent that fits and zero padding.
+fn is_well_laid(bytes: &[u8], extent: u64, block: Block<'_>) -> bool
+    requires small { IsSmall block.key.now block.value.now }
+    ensures { result ≡ (nat_le extent (length bytes.now) && (extent == extent_of (said block.entry)) && is_padded bytes.now extent (said block.entry)) }
+{
+    extent <= bytes.len() as u64
+        && extent == extent_of(block.key.len(), block.value.len())
+        && is_padded(bytes, extent, block)
+}
+
+/// The key belongs to this file of a set.
+fn is_home(head: &StaticHead, shard_of: ShardOf, block: Block<'_>) -> bool
+    requires { shard_of.index < shard_of.of }
+    ensures { result ≡ is_home head.now shard_of (said block.entry) }
+{
+    head.kind != 1 || block.kind == 4 || shard(mix(block.key), shard_of.of) == shard_of.index
+}
+
+/// The block may follow those before it in its group, or begin a group.
+fn is_in_turn(before: Option<u64>, begun: Option<Begun>, block: Block<'_>) -> bool
+    ensures { result ≡ turn_in before begun (said block.entry) }
+{
+    match begun {
+        Some(first) => block.number == first.number && block.kind != 4,
+        None => before.is_none_or(|number| number < block.number) && (block.kind != 4 || block.last),
+    }
+}
+
+/// What the block that stands there does.
+fn change_of(alloc: Global, block: Block<'_>) -> Result<Change, NoMemory>
+    ensures { IfOk result (λ c. c ≡ change_in (said block.entry)) }
+{
+    match block.kind {
+        1 => {
+            let key = Bytes::from_slice(alloc, block.key)?;
+            let value = Bytes::from_slice(alloc, block.value)?;
+            Ok(Change::Put(Pair { key, value }))
+        }
+        2 => Ok(Change::Drop(Bytes::from_slice(alloc, block.key)?)),
+        _ => Ok(Change::Clear),
+    }
+}
+
+impl Walker {
+    ghost use Rattle.std.specs.Prelude.{◌≡◌, ◌≤◌, ◌<◌, ◌^◌, ◌+◌, ℕ, List, [], ◌++◌, ◌∷◌, length, Option, option_map, if◌then◌else◌, IfOk, OnOk, IfErr};
+    ghost use Rattle.tk_block.specs.Text.{base_of};
+    ghost use Rattle.tk_block.specs.Blocks.{IsSmall, said};
+    ghost use Rattle.tk_block.specs.Layout.{Placed, link_of};
+    ghost use Rattle.tk_append.specs.Opening.{Walk, begin, may_stand, walked, begun_by};
+    ghost use Rattle.tk_append.specs.Walked.{IsAt, MayFollow, Fails, HasBlock, NewestIn, IsOfKind, least_behind, begun_at};
+
+    /// Nothing is known yet.
+    pub fn new(alloc: Global, p: u8) -> Result<Walker, NoMemory>
+        requires { p ≤ 24 }
+        ensures { IfOk result (λ walker. IsAt p (base_of p) walker begin) }
+    {
+        let mut heads = Vec::new(alloc);
+        heads.resize(1 << p, 0)?;
+        let records = HashedRecords::new(alloc, p)?;
+        Ok(Walker {
+            heads,
+            cleared: 0,
+            records,
+            before: None,
+            begun: None,
+        })
+    }
+
+    /// The link that a block with this body has here.
+    fn link(&self, p: u8, block: Block<'_>) -> u64
+        requires p { p ≤ 24 }
+        requires heads { length self.now.heads.items ≡ 2 ^ p }
+        ensures { (place : ℕ) (w : Walk) → IsAt p place self.now w → result ≡ link_of p w.blocks (said block.entry) }
+    {
+        if block.kind == 4 {
+            return 0;
+        }
+        let head = self.heads[bucket(mix(block.key), p) as usize];
+        if self.cleared < head { head } else { 0 }
+    }
+
+    /// The block may stand behind those so far.
+    fn may_stand(&self, head: &StaticHead, shard: ShardOf, bytes: &[u8], found: &Standing<'_>) -> bool
+        requires shard { shard.index < shard.of }
+        requires small { IsSmall found.now.block.key.now found.now.block.value.now }
+        ensures { (place : ℕ) (w : Walk) → IsAt head.now.p place self.now w → result ≡ may_stand head.now shard w bytes.now found.now.extent (said found.now.block) }
+    {
+        is_well_laid(bytes, found.extent, found.block)
+            && found.block.kind != 3
+            && is_in_turn(self.before, self.begun, found.block)
+            && is_home(head, shard, found.block)
+    }
+
+    /// The block at the front of bytes that lie at a place, where it may stand behind those so far.
+    fn judge<'a>(&self, head: &StaticHead, shard: ShardOf, place: u64, bytes: &'a [u8]) -> Result<Standing<'a>, OpenError>
+        requires p { head.now.p ≤ 24 }
+        requires heads { length self.now.heads.items ≡ 2 ^ head.now.p }
+        requires shard { shard.index < shard.of }
+        requires place { place + length bytes.now < 2 ^ 64 }
+        ensures found { (w : Walk) → IsAt head.now.p place self.now w → IfOk result (λ s. MayFollow head.now shard w place bytes.now s.extent (said s.block)) }
+        ensures fails { (w : Walk) → IsAt head.now.p place self.now w → IfErr result (Fails head.now shard w place bytes.now) }
+        ensures block { IfOk result (HasBlock place bytes.now) }
+    {
+        let Some(found) = block_at(bytes, place) else {
+            return Err(OpenError::BrokenAt(place));
+        };
+        if !self.may_stand(head, shard, bytes, &found) {
+            return Err(OpenError::BrokenAt(place));
+        }
+        if u64_at(bytes, 16) != self.link(head.p, found.block) {
+            return Err(OpenError::BrokenAt(place + 16));
+        }
+        Ok(found)
+    }
+
+    /// The block is the newest of its bucket, or all buckets are empty.
+    fn turn_heads(&mut self, p: u8, place: u64, block: Block<'_>)
+        requires p { p ≤ 24 }
+        requires heads { length self.old.heads.items ≡ 2 ^ p }
+        ensures heads { (blocks : List Placed) → NewestIn p place self.old.heads.items self.old.cleared blocks → IsOfKind (said block.entry)
+            → (next : ℕ) → place < next → NewestIn p next self.new.heads.items self.new.cleared (blocks ++ record { place = place; body = said block.entry } ∷ []) }
+        ensures records { self.new.records ≡ self.old.records }
+        ensures before { self.new.before ≡ self.old.before }
+        ensures begun { self.new.begun ≡ self.old.begun }
+    {
+        if block.kind == 4 {
+            self.cleared = place;
+        } else {
+            self.heads[bucket(mix(block.key), p) as usize] = place;
+        }
+    }
+
+    /// The block ends its group, or goes on with one.
+    fn turn_group(&mut self, place: u64, block: Block<'_>)
+        ensures before { (least : ℕ) → least ≡ least_behind self.old.before → (if block.entry.last then block.entry.number + 1 else least) ≡ least_behind self.new.before }
+        ensures begun { (first : Option Placed) → self.old.begun ≡ option_map begun_at first → self.new.begun ≡ option_map begun_at (begun_by first (record { place = place; body = said block.entry })) }
+        ensures heads { self.new.heads.items ≡ self.old.heads.items }
+        ensures cleared { self.new.cleared ≡ self.old.cleared }
+        ensures records { self.new.records ≡ self.old.records }
+    {
+        if block.last {
+            self.before = Some(block.number);
+            self.begun = None;
+        } else if self.begun.is_none() {
+            self.begun = Some(Begun { place, number: block.number });
+        }
+    }
+
+    /// Goes on behind a block that may stand here.
+    fn pass(&mut self, alloc: Global, p: u8, place: u64, block: Block<'_>) -> Result<(), NoMemory>
+        requires p { p ≤ 24 }
+        requires heads { length self.old.heads.items ≡ 2 ^ p }
+        ensures walked { (w : Walk) (next : ℕ) → IsAt p place self.old w → IsOfKind (said block.entry) → place < next
+            → OnOk result (IsAt p next self.new (walked w (record { place = place; body = said block.entry }))) }
+    {
+        self.records.apply(alloc, change_of(alloc, block)?)?;
+        self.turn_heads(p, place, block);
+        self.turn_group(place, block);
+        Ok(())
+    }
+}
