@@ -1,9 +1,11 @@
 -- A walk over blocks, block by block.
 use Rattle.std.proofs.Common.{◌≡◌, ℕ, zero, suc, ◌+◌, ◌-◌, ◌<◌, ◌≤◌, ◌^◌, Bool, true, false, cond, List, [], ◌∷◌, ◌++◌, length, get_or, take, drop, refl, sym, ◌∙◌, ap, subst, arith}
-use Rattle.std.specs.Prelude.{Option, Some, None, option_map, map, ◌==◌, ◌&&◌, ◌||◌, not, nat_le}
-use Rattle.std.proofs.lemmas.List.{drop_all, take_all, length-drop}
-use Rattle.std.proofs.lemmas.Bool.{eq-eqb}
-use Rattle.tk_model.specs.declared.error.OpenError.TheVariants.{BrokenAt}
+use Rattle.std.specs.Result.{IsErrAnd}
+use Rattle.std.specs.Prelude.{Result, Ok, Err, IfErr, Option, Some, None, option_map, map, ◌==◌, ◌&&◌, ◌||◌, not, nat_le}
+use Rattle.std.proofs.lemmas.List.{drop_all, take_all, length-drop, drop-drop}
+use Rattle.std.proofs.lemmas.Bool.{eq-eqb, eqb-true, leb-true}
+use Rattle.tk_model.specs.declared.error.OpenError.TheVariants.{NotADatabase, BrokenAt, Fault, NoMemory}
+use Rattle.tk_model.specs.declared.error.OpenError.{OpenError}
 use Rattle.tk_block.specs.Layout.{Placed, link_of}
 use Rattle.tk_block.specs.Number.{u64_in}
 use Rattle.tk_append.specs.declared.walker.Standing.{Standing}
@@ -16,11 +18,13 @@ use Rattle.std.proofs.lemmas.Bool.Decides.{nat_tests}
 use Rattle.tk_model.specs.declared.record.ShardOf.{ShardOf}
 use Rattle.tk_block.specs.declared.block.Body.{Body}
 use Rattle.tk_block.specs.declared.head.StaticHead.{StaticHead}
-use Rattle.tk_block.specs.Text.{head_at}
-use Rattle.tk_block.specs.Blocks.{said, body_at, body_text, body_in, check_in, is_body}
+use Rattle.tk_block.specs.Text.{head_at, base_of}
+use Rattle.tk_block.proofs.Bodies.{two_true}
+use Rattle.tk_block.proofs.BodyGrammar.{bodies}
+use Rattle.tk_block.specs.Blocks.{said, extent_of, body_at, body_text, body_in, check_in, is_body}
 use Rattle.tk_block.specs.Grammar.{Reads, FitsBody}
-use Rattle.tk_append.specs.Opening.{Walk, Outcome, FailsAt, walk_block, walked, may_stand, change_in, records_in, begun_by}
-use Rattle.tk_append.specs.Walked.{HasNone, HasBlock, MayFollow, Fails, IsAt, NewestIn, IsOfKind, least_behind, begun_at}
+use Rattle.tk_append.specs.Opening.{Walk, Outcome, FailsAt, Ends, begin, walk, walk_on, walk_block, walked, may_stand, is_padded, is_in_turn, is_home, change_in, records_in, begun_by}
+use Rattle.tk_append.specs.Walked.{HasNone, HasBlock, MayFollow, Fails, IsAt, NewestIn, IsOfKind, Passed, WalkedAll, WalkFails, least_behind, begun_at}
 
 no_body : (place : ℕ) → body_at [] place ≡ None
 unfolding body_at
@@ -40,6 +44,34 @@ none_head place bytes is h shard w go = ap (λ (o : Option ℕ). walk_block h sh
 
 pub none_short : (place : ℕ) (bytes : List ℕ) → length bytes < 24 → HasNone place bytes
 none_short place bytes short = none_body place bytes (ap (λ (l : List ℕ). body_at l place) (drop_all 24 bytes (omega arith)) ∙ no_body place)
+
+-- what a block that may stand meets
+pub record Stood (h : StaticHead) (shard : ShardOf) (w : Walk) (bytes : List ℕ) (extent : ℕ) (b : Body) : Type 0 where
+  pub within : extent ≤ length bytes
+  pub is_least : extent ≡ extent_of b
+  pub least : 48 ≤ extent
+  pub other : not (b.kind == 3) ≡ true
+  pub padding : is_padded bytes extent b ≡ true
+  pub turn : is_in_turn w.least w.begun b ≡ true
+  pub home : is_home h shard b ≡ true
+
+pub stood : (h : StaticHead) (shard : ShardOf) (w : Walk) (bytes : List ℕ) (extent : ℕ) (b : Body) → may_stand h shard w bytes extent b ≡ true → Stood h shard w bytes extent b
+stood h shard w bytes extent b stands =
+    let t1 = two_true _ _ stands in
+    let t2 = two_true _ _ t1.0 in
+    let t3 = two_true _ _ t2.0 in
+    let t4 = two_true _ _ t3.0 in
+    let t5 = two_true _ _ t4.0 in
+    let is : extent ≡ extent_of b = eqb-true _ _ t5.1 in
+    record {
+      within = leb-true _ _ t5.0;
+      is_least = is;
+      least = omega (arith, is);
+      other = t4.1;
+      padding = t3.1;
+      turn = t2.1;
+      home = t1.1;
+    }
 
 pub value_small : (b : Body) → is_body b ≡ true → length b.value ≤ 33554431
 value_small b is = grind (arith, nat_tests)
@@ -97,3 +129,99 @@ walked_on p place next old headed new w b change records at is done heads kept b
   least = least w.least (at.least ∙ ap least_behind (sym before));
   begun = first w.begun (begun ∙ at.begun);
 }
+
+kinds_left : (b : Body) → is_body b ≡ true → not (b.kind == 3) ≡ true → IsOfKind b
+kinds_left b valid other = grind (arith, nat_tests)
+
+of_kind : (bytes : List ℕ) (extent : ℕ) (h : StaticHead) (shard : ShardOf) (w : Walk) (b : Body) → is_body b ≡ true → may_stand h shard w bytes extent b ≡ true → IsOfKind b
+of_kind bytes extent h shard w b valid stands = kinds_left b valid (stood h shard w bytes extent b stands).other
+
+-- the block is passed
+pub passed : (h : StaticHead) (shard : ShardOf) (w : Walk) (place e : ℕ) (bytes : List ℕ) (b : Body) (walker : Walker) → MayFollow h shard w place bytes e b
+    → ((next : ℕ) → IsOfKind b → place < next → IsAt h.p next walker (walked w (record { place = place; body = b }))) → Passed h shard w place bytes e walker
+passed h shard w place e bytes b walker follows at =
+    let s = stood h shard w bytes e b follows.stands in
+    let fits = ((bodies place).found (drop 24 bytes) b follows.body).0 in
+    record {
+      body = b;
+      follows = follows;
+      at = at (place + e) (of_kind bytes e h shard w b fits.0 follows.stands) (omega (arith, s.least));
+      some = omega (arith, s.least);
+      within = s.within;
+    }
+
+walk_next : (n : ℕ) (h : StaticHead) (shard : ShardOf) (w : Walk) (place : ℕ) (bytes : List ℕ) → 0 < length bytes
+    → walk_on (suc n) h shard w place bytes ≡ walk_block h shard w place bytes (head_at bytes place) (body_at (drop 24 bytes) place) (λ v e. walk_on n h shard v (place + e) (drop e bytes))
+walk_next n h shard w place [] some = absurd (omega arith)
+walk_next n h shard w place (x ∷ xs) some = refl
+
+-- how far a walk over a file has come
+pub record Reached (h : StaticHead) (shard : ShardOf) (f : List ℕ) (place : ℕ) (walker : Walker) : Type 0 where
+  pub w : Walk
+  pub most : ℕ
+  pub at : IsAt h.p place walker w
+  pub within : place ≤ length f
+  pub enough : length f ≤ place + most
+  pub rest : walk_on most h shard w place (drop place f) ≡ walk h shard f
+
+pub reached_first : (h : StaticHead) (shard : ShardOf) (f : List ℕ) (walker : Walker) → IsAt h.p (base_of h.p) walker begin → base_of h.p ≤ length f → Reached h shard f (base_of h.p) walker
+unfolding walk
+reached_first h shard f walker at long = record { w = begin; most = length f; at = at; within = long; enough = omega arith; rest = refl }
+
+rest_of : (place : ℕ) (f bytes : List ℕ) → bytes ≡ take (length f - place) (drop place f) → bytes ≡ drop place f
+rest_of place f bytes is = is ∙ take_all (length f - place) (drop place f) (omega (arith, length-drop place f))
+
+further : (h : StaticHead) (shard : ShardOf) (f : List ℕ) (place e most : ℕ) (w : Walk) (new : Walker) → place < length f → length f ≤ place + most → walk_on most h shard w place (drop place f) ≡ walk h shard f
+    → Passed h shard w place (drop place f) e new → Reached h shard f (place + e) new
+further h shard f place e zero w new here enough rest p = absurd (omega arith)
+further h shard f place e (suc n) w new here enough rest p =
+    let x : Placed = record { place = place; body = p.body } in
+    record {
+      w = walked w x;
+      most = n;
+      at = p.at;
+      within = omega (arith, p.within, length-drop place f);
+      enough = omega (arith, p.some);
+      rest = ap (λ (l : List ℕ). walk_on n h shard (walked w x) (place + e) l) (sym (drop-drop e place f))
+          ∙ sym (goes_on h shard w place e (drop place f) p.body (λ v k. walk_on n h shard v (place + k) (drop k (drop place f))) p.follows)
+          ∙ sym (walk_next n h shard w place (drop place f) (omega (arith, length-drop place f)))
+          ∙ rest;
+    }
+
+-- one block further
+pub reached_next : (h : StaticHead) (shard : ShardOf) (f : List ℕ) (place e : ℕ) (old new : Walker) → Reached h shard f place old → place < length f
+    → ((w : Walk) → IsAt h.p place old w → Passed h shard w place (take (length f - place) (drop place f)) e new) → Reached h shard f (place + e) new
+reached_next h shard f place e old new r here p =
+    further h shard f place e r.most r.w new here r.enough r.rest (subst (λ (l : List ℕ). Passed h shard r.w place l e new) (rest_of place f _ refl) (p r.w r.at))
+
+stops_at : (h : StaticHead) (shard : ShardOf) (f : List ℕ) (place most : ℕ) (w : Walk) (e : OpenError) → place < length f → length f ≤ place + most → walk_on most h shard w place (drop place f) ≡ walk h shard f
+    → Fails h shard w place (drop place f) e → WalkFails h shard f e
+stops_at h shard f place zero w e here enough rest fails = absurd (omega arith)
+stops_at h shard f place (suc n) w (BrokenAt q) here enough rest fails = sym rest ∙ walk_next n h shard w place (drop place f) (omega (arith, length-drop place f)) ∙ fails _
+stops_at h shard f place (suc n) w NotADatabase here enough rest fails = absurd fails
+stops_at h shard f place (suc n) w Fault here enough rest fails = absurd fails
+stops_at h shard f place (suc n) w NoMemory here enough rest fails = tt
+
+-- a block that fails stops the walk
+pub reached_fault : (h : StaticHead) (shard : ShardOf) (f : List ℕ) (place : ℕ) (old : Walker) (e : OpenError) → Reached h shard f place old → place < length f
+    → ((w : Walk) → IsAt h.p place old w → Fails h shard w place (take (length f - place) (drop place f)) e) → WalkFails h shard f e
+reached_fault h shard f place old e r here fails =
+    stops_at h shard f place r.most r.w e here r.enough r.rest (subst (λ (l : List ℕ). Fails h shard r.w place l e) (rest_of place f _ refl) (fails r.w r.at))
+
+walk_end : (n : ℕ) (h : StaticHead) (shard : ShardOf) (w : Walk) (place : ℕ) (bytes : List ℕ) → bytes ≡ [] → walk_on n h shard w place bytes ≡ Ends w
+walk_end n h shard w place [] is = refl
+walk_end n h shard w place (x ∷ xs) is = absurd (cc is)
+
+pub reached_end : (h : StaticHead) (shard : ShardOf) (f : List ℕ) (place : ℕ) (walker : Walker) → Reached h shard f place walker → length f ≤ place → WalkedAll h shard f walker
+reached_end h shard f place walker r past =
+    let here : place ≡ length f = omega (arith, r.within) in
+    record {
+      w = r.w;
+      ends = sym r.rest ∙ walk_end r.most h shard r.w place (drop place f) (drop_all place f past);
+      at = subst (λ (n : ℕ). IsAt h.p n walker r.w) here r.at;
+    }
+
+-- an error that is handed on
+pub handed_on : {T : Type 0} (r : Result T OpenError) (cause : OpenError) (P : OpenError → Type 0) → IsErrAnd r (λ e. e ≡ cause) → P cause → IfErr r P
+handed_on (Ok x) cause P is holds = tt
+handed_on (Err e) cause P is holds = subst P (sym is) holds

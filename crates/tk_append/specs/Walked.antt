@@ -9,7 +9,7 @@ use Rattle.tk_block.specs.Blocks.{IsSmall, body_at, said}
 use Rattle.tk_block.specs.Layout.{Placed, newest, link_of}
 use Rattle.tk_block.specs.declared.block.Body.{Body}
 use Rattle.tk_block.specs.declared.head.StaticHead.{StaticHead}
-use Rattle.tk_append.specs.Opening.{Walk, Outcome, FailsAt, Ends, walk_block, walked, may_stand, records_in}
+use Rattle.tk_append.specs.Opening.{Walk, Outcome, FailsAt, Ends, walk, walk_block, walked, may_stand, records_in}
 use Rattle.tk_append.specs.declared.walker.Walker.{Walker}
 use Rattle.tk_append.specs.declared.walker.Begun.{Begun}
 use Rattle.tk_append.specs.declared.walker.Standing.{Standing}
@@ -75,3 +75,24 @@ turn_in before None b = nat_le (least_behind before) b.number && (not (b.kind ==
 -- a set, a remove or a clear
 abbrev pub IsOfKind : Body → Type 0
 IsOfKind b = (((b.kind == 1) || (b.kind == 2)) || (b.kind == 4)) ≡ true
+
+-- a block was passed: the walker knows one block more
+pub record Passed (h : StaticHead) (shard : ShardOf) (w : Walk) (place : ℕ) (bytes : List ℕ) (extent : ℕ) (walker : Walker) : Type 0 where
+  pub body : Body
+  pub follows : MayFollow h shard w place bytes extent body
+  pub at : IsAt h.p (place + extent) walker (walked w (record { place = place; body = body }))
+  pub some : 0 < extent
+  pub within : extent ≤ length bytes
+
+-- the walk to the end of a file, and what is known there
+pub record WalkedAll (h : StaticHead) (shard : ShardOf) (f : List ℕ) (walker : Walker) : Type 0 where
+  pub w : Walk
+  pub ends : walk h shard f ≡ Ends w
+  pub at : IsAt h.p (length f) walker w
+
+-- the walk fails at this place
+abbrev pub WalkFails : (h : StaticHead) (shard : ShardOf) (f : List ℕ) → OpenError → Type 0
+WalkFails h shard f (errors.BrokenAt at) = walk h shard f ≡ FailsAt at
+WalkFails h shard f errors.NotADatabase = ⊥
+WalkFails h shard f errors.Fault = ⊥
+WalkFails h shard f errors.NoMemory = Unit {0}

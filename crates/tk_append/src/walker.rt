@@ -7,7 +7,7 @@ ghost use Rattle.tk_append.specs.Walked.{IsAt, MayFollow, Fails, NewestIn, HasNo
 
 use crate::hashed::HashedRecords;
 use std::alloc::Global;
-use tk_block::{Block, StaticHead, body_at, extent_of, read_head, u64_at};
+use tk_block::{Block, StaticHead, base_of, body_at, extent_of, read_head, u64_at};
 use tk_model::{Bytes, Change, NoMemory, OpenError, Pair, ShardOf, bucket, mix, shard};
 
 /// The first block of a group that is not complete.
@@ -109,7 +109,7 @@ impl Walker {
     ghost use Rattle.tk_block.specs.Blocks.{IsSmall, said};
     ghost use Rattle.tk_block.specs.Layout.{Placed, link_of};
     ghost use Rattle.tk_append.specs.Opening.{Walk, begin, may_stand, walked, begun_by};
-    ghost use Rattle.tk_append.specs.Walked.{IsAt, MayFollow, Fails, HasBlock, NewestIn, IsOfKind, least_behind, begun_at};
+    ghost use Rattle.tk_append.specs.Walked.{IsAt, MayFollow, Fails, HasBlock, NewestIn, IsOfKind, Passed, WalkedAll, WalkFails, least_behind, begun_at};
 
     /// Nothing is known yet.
     pub fn new(alloc: Global, p: u8) -> Result<Walker, NoMemory>
@@ -219,5 +219,36 @@ impl Walker {
         self.turn_heads(p, place, block);
         self.turn_group(place, block);
         Ok(())
+    }
+
+    /// Passes the block at the front of bytes that lie at a place, and answers its extent.
+    fn step(&mut self, alloc: Global, head: &StaticHead, shard: ShardOf, place: u64, bytes: &[u8]) -> Result<u64, OpenError>
+        requires p { head.now.p ≤ 24 }
+        requires heads { length self.old.heads.items ≡ 2 ^ head.now.p }
+        requires shard { shard.index < shard.of }
+        requires place { place + length bytes.now < 2 ^ 64 }
+        ensures passed { (w : Walk) → IsAt head.now.p place self.old w → IfOk result (λ e. Passed head.now shard w place bytes.now e self.new) }
+        ensures fails { (w : Walk) → IsAt head.now.p place self.old w → IfErr result (Fails head.now shard w place bytes.now) }
+    {
+        let found = self.judge(head, shard, place, bytes)?;
+        self.pass(alloc, head.p, place, found.block)?;
+        Ok(found.extent)
+    }
+
+    /// What is known behind all blocks of a file.
+    pub fn over(alloc: Global, head: &StaticHead, shard: ShardOf, bytes: &[u8]) -> Result<Walker, OpenError>
+        requires p { head.now.p ≤ 24 }
+        requires shard { shard.index < shard.of }
+        requires long { base_of head.now.p ≤ length bytes.now }
+        ensures walked { IfOk result (WalkedAll head.now shard bytes.now) }
+        ensures fails { IfErr result (WalkFails head.now shard bytes.now) }
+    {
+        let mut walker = Walker::new(alloc, head.p)?;
+        let mut place = base_of(head.p) as usize;
+        while place < bytes.len() {
+            let extent = walker.step(alloc, head, shard, place as u64, &bytes[place..])?;
+            place += extent as usize;
+        }
+        Ok(walker)
     }
 }
