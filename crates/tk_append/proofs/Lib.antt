@@ -1,4 +1,5 @@
 pub mod ChainsSteps
+pub mod Checked
 pub mod FreshSteps
 pub mod Layouts
 pub mod NewestHeads

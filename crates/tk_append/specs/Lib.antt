@@ -1,4 +1,5 @@
 pub mod Chains
+pub mod Checked
 pub mod Fresh
 pub mod Log
 pub mod LogParts

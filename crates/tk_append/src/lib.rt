@@ -3,6 +3,7 @@
 
 mod blocks;
 mod chains;
+mod check;
 mod fresh;
 mod hashed;
 mod log;

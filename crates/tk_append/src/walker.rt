@@ -36,6 +36,13 @@ pub(crate) struct Standing<'a> {
     pub block: Block<'a>,
 }
 
+/// A head, where it stands behind the last clear.
+fn living(cleared: u64, head: u64) -> u64
+    ensures { result ≡ living cleared head }
+{
+    if cleared < head { head } else { 0 }
+}
+
 /// The block at the front of bytes that lie at a place.
 fn block_at(bytes: &[u8], place: u64) -> Option<Standing<'_>>
     ensures { MatchOption result (HasNone place bytes.now) (HasBlock place bytes.now) }
@@ -108,6 +115,7 @@ impl Walker {
     ghost use Rattle.tk_block.specs.Text.{base_of};
     ghost use Rattle.tk_block.specs.Blocks.{IsSmall, said};
     ghost use Rattle.tk_block.specs.Layout.{Placed, link_of};
+    ghost use Rattle.tk_append.specs.Chains.{HeadsAre};
     ghost use Rattle.tk_append.specs.Opening.{Walk, begin, may_stand, walked, begun_by};
     ghost use Rattle.tk_append.specs.Walked.{IsAt, MayFollow, Fails, HasBlock, NewestIn, IsOfKind, Passed, WalkedAll, WalkFails, least_behind, begun_at};
 
@@ -137,8 +145,7 @@ impl Walker {
         if block.kind == 4 {
             return 0;
         }
-        let head = self.heads[bucket(mix(block.key), p) as usize];
-        if self.cleared < head { head } else { 0 }
+        living(self.cleared, self.heads[bucket(mix(block.key), p) as usize])
     }
 
     /// The block may stand behind those so far.
@@ -250,5 +257,18 @@ impl Walker {
             place += extent as usize;
         }
         Ok(walker)
+    }
+
+    /// Makes 0 of the heads in front of the last clear.
+    pub fn settle(&mut self)
+        ensures heads { (p place : ℕ) (blocks : List Placed) → NewestIn p place self.old.heads.items self.old.cleared blocks → HeadsAre p self.new.heads.items blocks }
+        ensures same { length self.new.heads.items ≡ length self.old.heads.items }
+        ensures records { self.new.records ≡ self.old.records }
+        ensures before { self.new.before ≡ self.old.before }
+        ensures begun { self.new.begun ≡ self.old.begun }
+    {
+        for bucket in 0..self.heads.len() {
+            self.heads[bucket] = living(self.cleared, self.heads[bucket]);
+        }
     }
 }
