@@ -1,7 +1,9 @@
 pub mod ChainsSteps
 pub mod Checked
 pub mod FreshSteps
+pub mod Groupings
 pub mod Layouts
 pub mod NewestHeads
 pub mod PiecesSteps
 pub mod WalkerSteps
+pub mod Walks

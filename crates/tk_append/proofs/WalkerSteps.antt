@@ -133,7 +133,7 @@ walked_on p place next old headed new w b change records at is done heads kept b
 kinds_left : (b : Body) → is_body b ≡ true → not (b.kind == 3) ≡ true → IsOfKind b
 kinds_left b valid other = grind (arith, nat_tests)
 
-of_kind : (bytes : List ℕ) (extent : ℕ) (h : StaticHead) (shard : ShardOf) (w : Walk) (b : Body) → is_body b ≡ true → may_stand h shard w bytes extent b ≡ true → IsOfKind b
+pub of_kind : (bytes : List ℕ) (extent : ℕ) (h : StaticHead) (shard : ShardOf) (w : Walk) (b : Body) → is_body b ≡ true → may_stand h shard w bytes extent b ≡ true → IsOfKind b
 of_kind bytes extent h shard w b valid stands = kinds_left b valid (stood h shard w bytes extent b stands).other
 
 -- the block is passed
