@@ -1,5 +1,6 @@
 pub mod ChainsSteps
 pub mod Checked
+pub mod ClosedFiles
 pub mod FreshSteps
 pub mod Groupings
 pub mod Layouts

@@ -1,5 +1,7 @@
 -- What the check of a whole file answers.
-use Rattle.std.specs.Prelude.{◌≡◌, ◌≤◌, ℕ, Bool, List, length, drop, Option, Some, None, Result, Ok, Err}
+use Rattle.std.specs.Prelude.{◌≡◌, ◌≤◌, ◌^◌, ◌==◌, ℕ, Bool, true, List, length, drop, Option, Some, None, Result, Ok, Err}
+use Rattle.std.specs.List.{list_any}
+use Rattle.tk_model.specs.declared.record.Group.{Group}
 use Rattle.tk_model.specs.declared.record.ShardOf.{ShardOf}
 use Rattle.tk_model.specs.declared.error.OpenError.{OpenError}
 use Rattle.tk_model.specs.declared.error.OpenError.TheVariants as errors
@@ -7,6 +9,7 @@ use Rattle.tk_block.specs.Text.{static_at, closing_at, base_of}
 use Rattle.tk_block.specs.declared.head.StaticHead.{StaticHead}
 use Rattle.tk_block.specs.declared.closing.Closing.{Closing}
 use Rattle.tk_append.specs.Chains.{HeadsAre}
+use Rattle.tk_append.specs.Log.{IsRead, closed_text}
 use Rattle.tk_append.specs.Opening.{Walk, Ends, walk, records_in, closing_fault, end_fault, first_fault}
 use Rattle.tk_append.specs.declared.check.Found.{Found}
 
@@ -44,3 +47,11 @@ pub record IsFound (shard : ShardOf) (f : List ℕ) (found : Found) : Type 0 whe
   pub whole : w.begun ≡ None
   pub records : found.records ≡ records_in w.blocks
   pub heads : HeadsAre found.head.p found.heads.items w.blocks
+
+-- a file that nothing fails in is the closed file of some groups
+pub record IsClosed (kinds : List ℕ) (writable : Bool) (f : List ℕ) (found : Found) : Type 0 where
+  pub groups : List Group
+  pub read : IsRead found.head found.closing.size found.records found.heads.items found.closing.next groups
+  pub text : f ≡ closed_text found.head groups found.closing.next
+  pub kind : list_any (λ k. k == found.head.kind) kinds ≡ true
+  pub last : writable ≡ true → found.closing.next ≤ 2 ^ 62

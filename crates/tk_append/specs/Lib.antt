@@ -5,4 +5,5 @@ pub mod Log
 pub mod LogParts
 pub mod Opening
 pub mod Pieces
+pub mod Read
 pub mod Walked

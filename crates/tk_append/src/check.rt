@@ -7,7 +7,7 @@ ghost use Rattle.tk_block.specs.declared.head.StaticHead.{StaticHead as Head};
 ghost use Rattle.tk_append.specs.Opening.{Walk, Ends, records_in, first_fault, closing_fault, end_fault, head_fault, count_fault};
 ghost use Rattle.tk_append.specs.Chains.{HeadsAre};
 ghost use Rattle.tk_append.specs.Walked.{IsAt, NewestIn, living, least_behind};
-ghost use Rattle.tk_append.specs.Checked.{Finds, FindsCause, HeadIn, ClosingIn, IsFound};
+ghost use Rattle.tk_append.specs.Checked.{Finds, FindsCause, HeadIn, ClosingIn, IsFound, IsClosed};
 
 use crate::hashed::HashedRecords;
 use crate::walker::Walker;
@@ -126,6 +126,7 @@ pub(crate) fn check_bytes(
     requires shard { shard.index < shard.of }
     ensures exact { Finds result (first_fault kinds.now writable shard bytes.now) }
     ensures found { IfOk result (IsFound shard bytes.now) }
+    ensures closed { IfOk result (IsClosed kinds.now writable bytes.now) }
 {
     let head = head_in(bytes, kinds)?;
     let closing = closing_in(bytes, head.p)?;

@@ -8,11 +8,13 @@ mod fresh;
 mod hashed;
 mod log;
 mod pieces;
+mod read;
 mod walker;
 
 pub use fresh::write_fresh;
 pub use hashed::HashedRecords;
 pub use log::GroupLog;
+pub use read::{ReadLog, read_log};
 
 #[cfg(test)]
 mod tests;

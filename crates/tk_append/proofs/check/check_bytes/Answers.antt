@@ -1,7 +1,8 @@
-use Rattle.std.proofs.Common.{refl, sym, ◌∙◌, subst}
+use Rattle.std.proofs.Common.{refl, sym, ◌∙◌, subst, arith}
 use Rattle.tk_append.specs.Opening.{first_fault, Ends}
 use Rattle.tk_append.specs.Checked.{FindsCause}
 use Rattle.tk_append.proofs.Checked.{finds_err, to_the_end}
+use Rattle.tk_append.proofs.ClosedFiles.{closed_is}
 use Rattle.tk_append.proofs.check.check_bytes.Goals as goal
 
 pub returns-in_err-closing-clause-exact : goal.returns-in_err-closing-clause-exact
@@ -35,3 +36,6 @@ returns-clause-found c =
       records = c.check_end.ensures.records ∙ all.at.records;
       heads = c.in_ok-check_end.ensures.heads c.in_ok-head.head.p _ all.w all.at;
     }
+
+pub returns-clause-closed : goal.returns-clause-closed
+returns-clause-closed c = closed_is c.args.kinds.now c.args.writable c.args.shard c.args.bytes.now _ (λ i. omega (arith, c.type_inv.bytes i)) (returns-clause-exact c) (returns-clause-found c)
