@@ -79,7 +79,12 @@ fn head_fault(bytes: &[u8], heads: &[u64]) -> Option<u64>
 }
 
 /// The closing part tells the number of records, and a next number above all.
-fn check_count(writable: bool, closing: &Closing, count: usize, before: Option<u64>) -> Result<(), OpenError>
+fn check_count(
+    writable: bool,
+    closing: &Closing,
+    count: usize,
+    before: Option<u64>,
+) -> Result<(), OpenError>
     ensures { (w : Walk) → count ≡ length (records_in w.blocks) → w.least ≡ least_behind before → Finds result (count_fault writable closing.now w) }
 {
     let is_above = before.is_none_or(|number| number < closing.next);

@@ -23,7 +23,6 @@ pub struct ReadLog<D: Disk> {
     pub next: u64,
 }
 
-
 /// The length of the disk's file.
 fn length_of<D: Disk>(disk: &mut D) -> Result<u64, OpenError>
     ensures value { IfSome (D.image disk.old) (λ f. IfOk result (λ n. n ≡ length f)) }

@@ -91,7 +91,8 @@ fn is_in_turn(before: Option<u64>, begun: Option<Begun>, block: Block<'_>) -> bo
 {
     match begun {
         Some(first) => block.number == first.number && block.kind != 4,
-        None => before.is_none_or(|number| number < block.number) && (block.kind != 4 || block.last),
+        None => before.is_none_or(|number| number < block.number)
+            && (block.kind != 4 || block.last),
     }
 }
 
@@ -149,7 +150,13 @@ impl Walker {
     }
 
     /// The block may stand behind those so far.
-    fn may_stand(&self, head: &StaticHead, shard: ShardOf, bytes: &[u8], found: &Standing<'_>) -> bool
+    fn may_stand(
+        &self,
+        head: &StaticHead,
+        shard: ShardOf,
+        bytes: &[u8],
+        found: &Standing<'_>,
+    ) -> bool
         requires shard { shard.index < shard.of }
         requires small { IsSmall found.now.block.key.now found.now.block.value.now }
         ensures { (place : ℕ) (w : Walk) → IsAt head.now.p place self.now w → result ≡ may_stand head.now shard w bytes.now found.now.extent (said found.now.block) }
@@ -161,7 +168,13 @@ impl Walker {
     }
 
     /// The block at the front of bytes that lie at a place, where it may stand behind those so far.
-    fn judge<'a>(&self, head: &StaticHead, shard: ShardOf, place: u64, bytes: &'a [u8]) -> Result<Standing<'a>, OpenError>
+    fn judge<'a>(
+        &self,
+        head: &StaticHead,
+        shard: ShardOf,
+        place: u64,
+        bytes: &'a [u8],
+    ) -> Result<Standing<'a>, OpenError>
         requires p { head.now.p ≤ 24 }
         requires heads { length self.now.heads.items ≡ 2 ^ head.now.p }
         requires shard { shard.index < shard.of }
@@ -211,7 +224,10 @@ impl Walker {
             self.before = Some(block.number);
             self.begun = None;
         } else if self.begun.is_none() {
-            self.begun = Some(Begun { place, number: block.number });
+            self.begun = Some(Begun {
+                place,
+                number: block.number,
+            });
         }
     }
 
@@ -229,7 +245,14 @@ impl Walker {
     }
 
     /// Passes the block at the front of bytes that lie at a place, and answers its extent.
-    fn step(&mut self, alloc: Global, head: &StaticHead, shard: ShardOf, place: u64, bytes: &[u8]) -> Result<u64, OpenError>
+    fn step(
+        &mut self,
+        alloc: Global,
+        head: &StaticHead,
+        shard: ShardOf,
+        place: u64,
+        bytes: &[u8],
+    ) -> Result<u64, OpenError>
         requires p { head.now.p ≤ 24 }
         requires heads { length self.old.heads.items ≡ 2 ^ head.now.p }
         requires shard { shard.index < shard.of }
@@ -243,7 +266,12 @@ impl Walker {
     }
 
     /// What is known behind all blocks of a file.
-    pub fn over(alloc: Global, head: &StaticHead, shard: ShardOf, bytes: &[u8]) -> Result<Walker, OpenError>
+    pub fn over(
+        alloc: Global,
+        head: &StaticHead,
+        shard: ShardOf,
+        bytes: &[u8],
+    ) -> Result<Walker, OpenError>
         requires p { head.now.p ≤ 24 }
         requires shard { shard.index < shard.of }
         requires long { base_of head.now.p ≤ length bytes.now }
