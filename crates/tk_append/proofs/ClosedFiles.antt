@@ -138,7 +138,7 @@ change_back n (Put p) last = refl
 change_back n (Drop k) last = refl
 change_back n Clear last = refl
 
-abbrev changes_of : List Placed → List Change
+abbrev pub changes_of : List Placed → List Change
 changes_of blocks = map (λ (x : Placed). change_in x.body) blocks
 
 changes-append : (xs ys : List Placed) → changes_of (xs ++ ys) ≡ changes_of xs ++ changes_of ys
@@ -151,7 +151,7 @@ group_changes place n (c ∷ cs) =
     ap (λ (d : Change). d ∷ changes_of (laid (place + extent_of (body_of n c (is_nil cs))) (group_bodies n cs))) (change_back n c (is_nil cs))
     ∙ ap (λ (l : List Change). c ∷ l) (group_changes (place + extent_of (body_of n c (is_nil cs))) n cs)
 
-replayed : (place : ℕ) (gs : List Group) (m : List Pair) → after Hash (changes_of (laid place (bodies_of gs))) m ≡ replay Hash gs m
+pub replayed : (place : ℕ) (gs : List Group) (m : List Pair) → after Hash (changes_of (laid place (bodies_of gs))) m ≡ replay Hash gs m
 replayed place [] m = refl
 replayed place (g ∷ gs) m =
     let front = group_bodies g.number g.changes in

@@ -6,5 +6,6 @@ pub mod Groupings
 pub mod Layouts
 pub mod NewestHeads
 pub mod PiecesSteps
+pub mod Reopened
 pub mod WalkerSteps
 pub mod Walks

@@ -150,7 +150,7 @@ passed h shard w place e bytes b walker follows at =
       within = s.within;
     }
 
-walk_next : (n : ℕ) (h : StaticHead) (shard : ShardOf) (w : Walk) (place : ℕ) (bytes : List ℕ) → 0 < length bytes
+pub walk_next : (n : ℕ) (h : StaticHead) (shard : ShardOf) (w : Walk) (place : ℕ) (bytes : List ℕ) → 0 < length bytes
     → walk_on (suc n) h shard w place bytes ≡ walk_block h shard w place bytes (head_at bytes place) (body_at (drop 24 bytes) place) (λ v e. walk_on n h shard v (place + e) (drop e bytes))
 walk_next n h shard w place [] some = absurd (omega arith)
 walk_next n h shard w place (x ∷ xs) some = refl

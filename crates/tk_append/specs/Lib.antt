@@ -4,6 +4,7 @@ pub mod Fresh
 pub mod Log
 pub mod LogParts
 pub mod Opening
+pub mod OpeningLaws
 pub mod Pieces
 pub mod Read
 pub mod Walked

@@ -6,6 +6,7 @@ mod chains;
 mod check;
 mod fresh;
 mod hashed;
+mod law;
 mod log;
 mod pieces;
 mod read;
@@ -13,6 +14,7 @@ mod walker;
 
 pub use fresh::write_fresh;
 pub use hashed::HashedRecords;
+pub use law::closed_files_open;
 pub use log::GroupLog;
 pub use read::{ReadLog, read_log};
 
