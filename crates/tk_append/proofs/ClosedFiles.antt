@@ -27,12 +27,14 @@ use Rattle.tk_block.proofs.Bodies.{two_true, joined_front}
 use Rattle.tk_block.proofs.Grammar.{static_found, closing_found}
 use Rattle.tk_block.proofs.Layouts.{laid-append, end_of-append}
 use Rattle.tk_append.specs.Chains.{HeadsAre}
-use Rattle.tk_append.specs.Log.{AreGroups, IsRead, blocks_of, closed_text}
-use Rattle.tk_append.specs.Opening.{Walk, Outcome, FailsAt, Ends, walk, change_in, records_in, broken_unless, broken_at, place_in, head_fault, count_fault, end_fault, closing_fault, static_fault, first_fault}
+use Rattle.tk_append.specs.Log.{AreGroups, IsRead, AllIn, AllHome, blocks_of, closed_text}
+use Rattle.tk_append.specs.OpeningLaws.{MayOpen, IsClosedFile, OpensOnlyClosed}
+use Rattle.tk_model.specs.Entries.{is_in_shard, holds_key}
+use Rattle.tk_append.specs.Opening.{Walk, Outcome, FailsAt, Ends, walk, is_home, change_in, records_in, broken_unless, broken_at, place_in, head_fault, count_fault, end_fault, closing_fault, static_fault, first_fault}
 use Rattle.tk_append.specs.Checked.{IsFound, IsClosed}
 use Rattle.tk_append.specs.declared.check.Found.{Found}
 use Rattle.tk_append.proofs.Groupings.{Parted, IsPart, part_bodies, groups_upto}
-use Rattle.tk_append.proofs.Walks.{AreBytes, Grouped, file_grouped}
+use Rattle.tk_append.proofs.Walks.{AreBytes, Grouped, AllAtHome, file_grouped}
 
 unless : (t : Bool) (place : ℕ) (next : Option OpenError) → broken_unless t place next ≡ None → (t ≡ true) × (next ≡ None)
 unless true place next is = (refl, is)
@@ -178,34 +180,137 @@ no_part : (least : ℕ) (begun : Option Placed) (number : ℕ) (part : List Chan
 no_part least None number part is rest = rest
 no_part least (Some x) number part is rest = absurd (cc is)
 
+home_split : (h : StaticHead) (shard : ShardOf) (xs ys : List Body) → AllAtHome h shard (xs ++ ys) → AllAtHome h shard xs × AllAtHome h shard ys
+home_split h shard [] ys all = (tt, all)
+home_split h shard (x ∷ xs) ys all = let more = home_split h shard xs ys all.1 in ((all.0, more.0), more.1)
+
+home_key : (h : StaticHead) (shard : ShardOf) (k : List ℕ) → h.kind ≡ 1 → (not (h.kind == 1) || false || holds_key shard k) ≡ true → holds_key shard k ≡ true
+home_key h shard k one here = subst (λ (n : ℕ). (not (n == 1) || false || holds_key shard k) ≡ true) one here
+
+home_change : (h : StaticHead) (shard : ShardOf) (n : ℕ) (c : Change) (last : Bool) → h.kind ≡ 1 → is_home h shard (body_of n c last) ≡ true → is_in_shard shard c ≡ true
+home_change h shard n (Put p) last one here = home_key h shard p.key one here
+home_change h shard n (Drop k) last one here = home_key h shard k one here
+home_change h shard n Clear last one here = refl
+
+home_changes : (h : StaticHead) (shard : ShardOf) (n : ℕ) (cs : List Change) → h.kind ≡ 1 → AllAtHome h shard (group_bodies n cs) → AllIn shard cs
+home_changes h shard n [] one all = tt
+home_changes h shard n (c ∷ cs) one all = (home_change h shard n c (is_nil cs) one all.0, home_changes h shard n cs one all.1)
+
+home_groups : (h : StaticHead) (shard : ShardOf) (gs : List Group) → AllAtHome h shard (bodies_of gs) → h.kind ≡ 1 → AllHome shard gs
+home_groups h shard [] all one = tt
+home_groups h shard (g ∷ gs) all one =
+    let parts = home_split h shard (group_bodies g.number g.changes) (bodies_of gs) all in
+    (home_changes h shard g.number g.changes one parts.0, home_groups h shard gs parts.1 one)
+
+-- a header, a closing part and groups that make a file
+record Made (shard : ShardOf) (f : List ℕ) (h : StaticHead) (c : Closing) (w : Walk) : Type 0 where
+  groups : List Group
+  legal : AreGroups 0 c.next groups
+  blocks : w.blocks ≡ blocks_of h groups
+  records : records_in w.blocks ≡ replay Hash groups []
+  end : c.size ≡ end_of (base_of h.p) (bodies_of groups)
+  home : h.kind ≡ 1 → AllHome shard groups
+  text : f ≡ closed_text h groups c.next
+
+made : (kinds : List ℕ) (writable : Bool) (shard : ShardOf) (f : List ℕ) (h : StaticHead) (c : Closing) (w : Walk) → AreBytes f → static_at f ≡ Some h → closing_at (drop 32 f) ≡ Some c → walk h shard f ≡ Ends w
+    → w.begun ≡ None → Sound kinds writable f h c w → Made shard f h c w
+made kinds writable shard f h c w are head closing ends whole s =
+    let g = file_grouped h shard f w are s.long ends in
+    let groups = g.parted.groups in
+    let bodies : g.bodies ≡ bodies_of groups =
+    g.parted.bodies_are ∙ ap (λ (l : List Change). bodies_of groups ++ part_bodies g.parted.number l) (no_part w.least w.begun g.parted.number g.parted.part whole g.parted.rest) ∙ append-nil (bodies_of groups) in
+    let blocks : w.blocks ≡ blocks_of h groups = g.blocks ∙ ap (laid (base_of h.p)) bodies in
+    let end : c.size ≡ end_of (base_of h.p) (bodies_of groups) = s.size ∙ g.end ∙ ap (end_of (base_of h.p)) bodies in
+    let records : records_in w.blocks ≡ replay Hash groups [] = ap records_in blocks ∙ replayed (base_of h.p) groups [] in
+    record {
+      groups = groups;
+      legal = groups_upto 0 w.least c.next groups g.parted.legal s.least;
+      blocks = blocks;
+      records = records;
+      end = end;
+      home = home_groups h shard groups (subst (AllAtHome h shard) bodies g.home);
+      text =
+          whole_text h f groups c head closing end
+          (subst (λ (l : List Placed). take (8 * 2 ^ h.p) (drop 64 f) ≡ heads_text h.p l) blocks (heads_stand_all h.p w.blocks f are s.long s.heads))
+          (subst (λ (l : List Placed). drop (base_of h.p) f ≡ texts l (links_of h.p [] l)) blocks g.text)
+          ∙ ap (λ (n : ℕ). file_text h groups n c.next) (s.count ∙ ap length records);
+    }
+
 -- what was found is a closed file
-pub closed_is : (kinds : List ℕ) (writable : Bool) (shard : ShardOf) (f : List ℕ) (found : Found) → AreBytes f → first_fault kinds writable shard f ≡ None → IsFound shard f found → IsClosed kinds writable f found
+pub closed_is : (kinds : List ℕ) (writable : Bool) (shard : ShardOf) (f : List ℕ) (found : Found) → AreBytes f → first_fault kinds writable shard f ≡ None → IsFound shard f found → IsClosed kinds writable shard f found
 closed_is kinds writable shard f found are none is =
     let h = found.head in
     let c = found.closing in
     let s = sound kinds writable shard f h c is.w is.head is.closing is.ends none in
-    let g = file_grouped h shard f is.w are s.long is.ends in
-    let groups = g.parted.groups in
-    let bodies : g.bodies ≡ bodies_of groups =
-    g.parted.bodies_are ∙ ap (λ (l : List Change). bodies_of groups ++ part_bodies g.parted.number l) (no_part is.w.least is.w.begun g.parted.number g.parted.part is.whole g.parted.rest) ∙ append-nil (bodies_of groups) in
-    let blocks : is.w.blocks ≡ blocks_of h groups = g.blocks ∙ ap (laid (base_of h.p)) bodies in
-    let end : c.size ≡ end_of (base_of h.p) (bodies_of groups) = s.size ∙ g.end ∙ ap (end_of (base_of h.p)) bodies in
-    let records : records_in is.w.blocks ≡ replay Hash groups [] = ap records_in blocks ∙ replayed (base_of h.p) groups [] in
-    let count : c.count ≡ length (replay Hash groups []) = s.count ∙ ap length records in
+    let m = made kinds writable shard f h c is.w are is.head is.closing is.ends is.whole s in
     record {
-      groups = groups;
+      groups = m.groups;
       read = record {
         head = (static_found f h is.head).0.0;
-        legal = groups_upto 0 is.w.least c.next groups g.parted.legal s.least;
-        records_are = is.records ∙ records;
-        heads_are = subst (λ (l : List Placed). HeadsAre h.p found.heads.items l) blocks is.heads;
-        end_is = end;
+        legal = m.legal;
+        records_are = is.records ∙ m.records;
+        heads_are = subst (λ (l : List Placed). HeadsAre h.p found.heads.items l) m.blocks is.heads;
+        end_is = m.end;
       };
-      text =
-          whole_text h f groups c is.head is.closing end
-          (subst (λ (l : List Placed). take (8 * 2 ^ h.p) (drop 64 f) ≡ heads_text h.p l) blocks (heads_stand_all h.p is.w.blocks f are s.long s.heads))
-          (subst (λ (l : List Placed). drop (base_of h.p) f ≡ texts l (links_of h.p [] l)) blocks g.text)
-          ∙ ap (λ (n : ℕ). file_text h groups n c.next) count;
+      text = m.text;
       kind = s.kind;
+      home = m.home;
       last = s.last;
     }
+
+no_begun : (o : Option Placed) → place_in o ≡ None → o ≡ None
+no_begun None is = refl
+no_begun (Some x) is = absurd (cc is)
+
+all_read : (kinds : List ℕ) (writable : Bool) (shard : ShardOf) (f : List ℕ) (h : StaticHead) (c : Closing) (w : Walk) → AreBytes f → static_at f ≡ Some h → closing_at (drop 32 f) ≡ Some c → walk h shard f ≡ Ends w
+    → first_fault kinds writable shard f ≡ None → IsClosedFile kinds writable shard f
+all_read kinds writable shard f h c w are head closing ends none =
+    let s = sound kinds writable shard f h c w head closing ends none in
+    let m = made kinds writable shard f h c w are head closing ends (no_begun w.begun s.whole) s in
+    let fits = (closing_found (drop 32 f) c closing).0 in
+    record {
+      h = h;
+      groups = m.groups;
+      next = c.next;
+      may = record {
+        head = (static_found f h head).0.0;
+        generation = (static_found f h head).0.1;
+        kind = s.kind;
+        legal = m.legal;
+        home = m.home;
+        size = subst (λ (n : ℕ). n < 2 ^ 64) m.end fits.0;
+        number = fits.2;
+        last = s.last;
+      };
+      text = m.text;
+    }
+
+walk_read : (o : Outcome) (kinds : List ℕ) (writable : Bool) (shard : ShardOf) (f : List ℕ) (h : StaticHead) (c : Closing) → AreBytes f → static_at f ≡ Some h → closing_at (drop 32 f) ≡ Some c → walk h shard f ≡ o
+    → end_fault writable h c f o ≡ None → first_fault kinds writable shard f ≡ None → IsClosedFile kinds writable shard f
+walk_read (FailsAt place) kinds writable shard f h c are head closing is end none = absurd (cc end)
+walk_read (Ends w) kinds writable shard f h c are head closing is end none = all_read kinds writable shard f h c w are head closing is none
+
+closing_read : (o : Option Closing) (kinds : List ℕ) (writable : Bool) (shard : ShardOf) (f : List ℕ) (h : StaticHead) → AreBytes f → static_at f ≡ Some h → closing_at (drop 32 f) ≡ o
+    → closing_fault writable h shard f o ≡ None → first_fault kinds writable shard f ≡ None → IsClosedFile kinds writable shard f
+closing_read None kinds writable shard f h are head is end none = absurd (cc end)
+closing_read (Some c) kinds writable shard f h are head is end none =
+    walk_read (walk h shard f) kinds writable shard f h c are head is refl (unless _ 32 (end_fault writable h c f (walk h shard f)) end).1 none
+
+static_read : (o : Option StaticHead) (kinds : List ℕ) (writable : Bool) (shard : ShardOf) (f : List ℕ) → AreBytes f → static_at f ≡ o → static_fault kinds writable shard f o ≡ None → first_fault kinds writable shard f ≡ None
+    → IsClosedFile kinds writable shard f
+static_read None kinds writable shard f are is end none = absurd (cc end)
+static_read (Some h) kinds writable shard f are is end none =
+    closing_read (closing_at (drop 32 f)) kinds writable shard f h are is refl (unless _ 8 (closing_fault writable h shard f (closing_at (drop 32 f))) end).1 none
+
+told_none : (kinds : List ℕ) (writable : Bool) (shard : ShardOf) (f : List ℕ) → first_fault kinds writable shard f ≡ None → static_fault kinds writable shard f (static_at f) ≡ None
+unfolding first_fault
+told_none kinds writable shard f none = (long_enough (nat_le 64 (length f)) kinds writable shard f refl none).1
+
+all_bytes : (f : List ℕ) → ((i : ℕ) → i < length f → get_or f i 0 < 256) → AreBytes f
+all_bytes [] are i = omega arith
+all_bytes (x ∷ xs) are zero = are zero (omega arith)
+all_bytes (x ∷ xs) are (suc i) = all_bytes xs (λ k below. are (suc k) (omega arith)) i
+
+-- nothing else is opened
+pub opens_only_closed : OpensOnlyClosed
+opens_only_closed kinds writable shard f are none = static_read (static_at f) kinds writable shard f (all_bytes f are) refl (told_none kinds writable shard f none) none

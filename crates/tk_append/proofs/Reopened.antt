@@ -33,9 +33,9 @@ use Rattle.tk_block.proofs.Grammar.{statics, closings, length-static_text, lengt
 use Rattle.tk_block.proofs.BlockReads.{block_head, block_body, block_link, block_padding, block_rest, change_fits}
 use Rattle.tk_block.proofs.Lengths.{length-block_text, length-heads_below, length-file_text}
 use Rattle.tk_block.proofs.Layouts.{newest-append, length-laid}
-use Rattle.tk_append.specs.Log.{AreGroups, blocks_of, closed_text}
+use Rattle.tk_append.specs.Log.{AreGroups, AllIn, AllHome, blocks_of, closed_text}
 use Rattle.tk_append.specs.Opening.{Walk, Outcome, Ends, begin, walk, walk_on, walked, may_stand, is_in_turn, is_home, is_padded, begun_by, change_in, records_in, broken_unless, broken_at, place_in, head_fault, count_fault, end_fault, closing_fault, static_fault, first_fault}
-use Rattle.tk_append.specs.OpeningLaws.{AllIn, AllHome, MayOpen, OpensClosed}
+use Rattle.tk_append.specs.OpeningLaws.{MayOpen, OpensClosed}
 use Rattle.tk_append.specs.Walked.{MayFollow}
 use Rattle.tk_append.proofs.Layouts.{end_of-least}
 use Rattle.tk_append.proofs.WalkerSteps.{walk_next, goes_on}

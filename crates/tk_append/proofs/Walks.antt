@@ -15,7 +15,7 @@ use Rattle.tk_block.specs.Layout.{Placed, laid, end_of, texts, links_of, link_of
 use Rattle.tk_block.proofs.BodyGrammar.{bodies}
 use Rattle.tk_block.proofs.BlockReads.{block_spelled}
 use Rattle.tk_block.proofs.Layouts.{laid-append, end_of-append, links_of-append, texts-append-both, length-links_of}
-use Rattle.tk_append.specs.Opening.{Walk, Outcome, FailsAt, Ends, begin, walk, walk_on, walk_block, walked, may_stand}
+use Rattle.tk_append.specs.Opening.{Walk, Outcome, FailsAt, Ends, begin, walk, walk_on, walk_block, walked, may_stand, is_home}
 use Rattle.tk_append.specs.Walked.{MayFollow, IsOfKind}
 use Rattle.tk_append.proofs.WalkerSteps.{stood, of_kind}
 use Rattle.tk_append.proofs.Groupings.{Parted, parted_more}
@@ -26,13 +26,23 @@ AreBytes f = (i : ℕ) → get_or f i 0 < 256
 bytes_drop : (n : ℕ) (f : List ℕ) → AreBytes f → AreBytes (drop n f)
 bytes_drop n f are i = rw (get_or-drop n f i 0) (are (n + i))
 
+-- the keys of these bodies belong to this file of a set
+abbrev pub AllAtHome : StaticHead → ShardOf → List Body → Type 0
+AllAtHome h shard [] = Unit {0}
+AllAtHome h shard (b ∷ bs) = (is_home h shard b ≡ true) × AllAtHome h shard bs
+
+home_more : (h : StaticHead) (shard : ShardOf) (bs : List Body) (b : Body) → AllAtHome h shard bs → is_home h shard b ≡ true → AllAtHome h shard (bs ++ b ∷ [])
+home_more h shard [] b all one = (one, tt)
+home_more h shard (c ∷ bs) b all one = (all.0, home_more h shard bs b all.1 one)
+
 -- the blocks so far are those of groups and a part of one more, and their text is the front
-pub record Grouped (h : StaticHead) (place : ℕ) (front : List ℕ) (w : Walk) : Type 0 where
+pub record Grouped (h : StaticHead) (shard : ShardOf) (place : ℕ) (front : List ℕ) (w : Walk) : Type 0 where
   pub bodies : List Body
   pub blocks : w.blocks ≡ laid (base_of h.p) bodies
   pub end : place ≡ end_of (base_of h.p) bodies
   pub text : front ≡ texts w.blocks (links_of h.p [] w.blocks)
   pub parted : Parted bodies w.least w.begun
+  pub home : AllAtHome h shard bodies
 
 -- the text of a block that follows
 follows_text : (h : StaticHead) (shard : ShardOf) (w : Walk) (place e : ℕ) (bytes : List ℕ) (b : Body) → AreBytes bytes → MayFollow h shard w place bytes e b → take e bytes ≡ block_text b place (link_of h.p w.blocks b)
@@ -52,8 +62,8 @@ texts_more p blocks x =
     ∙ ap (λ (l : List ℕ). texts blocks (links_of p [] blocks) ++ l) (append-nil (block_text x.body x.place (link_of p blocks x.body)))
 
 -- one block more
-grouped_more : (h : StaticHead) (shard : ShardOf) (w : Walk) (place e : ℕ) (front bytes : List ℕ) (b : Body) → AreBytes bytes → MayFollow h shard w place bytes e b → Grouped h place front w
-    → Grouped h (place + e) (front ++ take e bytes) (walked w (record { place = place; body = b }))
+grouped_more : (h : StaticHead) (shard : ShardOf) (w : Walk) (place e : ℕ) (front bytes : List ℕ) (b : Body) → AreBytes bytes → MayFollow h shard w place bytes e b → Grouped h shard place front w
+    → Grouped h shard (place + e) (front ++ take e bytes) (walked w (record { place = place; body = b }))
 grouped_more h shard w place e front bytes b are f g =
     let s = stood h shard w bytes e b f.stands in
     let fits = ((bodies place).found (drop 24 bytes) b f.body).0 in
@@ -70,6 +80,7 @@ grouped_more h shard w place e front bytes b are f g =
           ∙ ap (λ (l : List ℕ). texts w.blocks (links_of h.p [] w.blocks) ++ l) (follows_text h shard w place e bytes b are f)
           ∙ sym (texts_more h.p w.blocks x);
       parted = parted_more g.bodies w.least w.begun b place g.parted fits (of_kind bytes e h shard w b fits.0 f.stands) s.turn;
+      home = home_more h shard g.bodies b g.home s.home;
     }
 
 -- where a walk ends behind a block, the block follows
@@ -106,11 +117,11 @@ ended : (w v : Walk) → Ends w ≡ Ends v → w ≡ v
 ended w v is = cc is
 
 -- a walk that ends
-pub walk_grouped : (n : ℕ) (h : StaticHead) (shard : ShardOf) (w : Walk) (place : ℕ) (front bytes : List ℕ) (v : Walk) → AreBytes bytes → walk_on n h shard w place bytes ≡ Ends v → Grouped h place front w
-    → Grouped h (place + length bytes) (front ++ bytes) v
+pub walk_grouped : (n : ℕ) (h : StaticHead) (shard : ShardOf) (w : Walk) (place : ℕ) (front bytes : List ℕ) (v : Walk) → AreBytes bytes → walk_on n h shard w place bytes ≡ Ends v → Grouped h shard place front w
+    → Grouped h shard (place + length bytes) (front ++ bytes) v
 walk_grouped n h shard w place front [] v are ends g =
-    subst (λ (k : ℕ). Grouped h k (front ++ []) v) (omega arith)
-    (subst (λ (l : List ℕ). Grouped h place l v) (sym (append-nil front)) (subst (Grouped h place front) (ended w v ends) g))
+    subst (λ (k : ℕ). Grouped h shard k (front ++ []) v) (omega arith)
+    (subst (λ (l : List ℕ). Grouped h shard place l v) (sym (append-nil front)) (subst (Grouped h shard place front) (ended w v ends) g))
 walk_grouped zero h shard w place front (x ∷ xs) v are ends g = absurd (cc ends)
 walk_grouped (suc n) h shard w place front (x ∷ xs) v are ends g =
     let bytes : List ℕ = x ∷ xs in
@@ -118,14 +129,14 @@ walk_grouped (suc n) h shard w place front (x ∷ xs) v are ends g =
     let within = (stood h shard w bytes on.extent on.body on.follows.stands).within in
     let more = grouped_more h shard w place on.extent front bytes on.body are on.follows g in
     let all = walk_grouped n h shard (walked w (record { place = place; body = on.body })) (place + on.extent) (front ++ take on.extent bytes) (drop on.extent bytes) v (bytes_drop on.extent bytes are) on.rest more in
-    subst (λ (k : ℕ). Grouped h k (front ++ bytes) v) (omega (arith, length-drop on.extent bytes, within))
-    (subst (λ (l : List ℕ). Grouped h (place + on.extent + length (drop on.extent bytes)) l v)
+    subst (λ (k : ℕ). Grouped h shard k (front ++ bytes) v) (omega (arith, length-drop on.extent bytes, within))
+    (subst (λ (l : List ℕ). Grouped h shard (place + on.extent + length (drop on.extent bytes)) l v)
     (append_assoc front (take on.extent bytes) (drop on.extent bytes) ∙ ap (λ (l : List ℕ). front ++ l) (take-append-drop on.extent bytes)) all)
 
 -- a whole file
-pub file_grouped : (h : StaticHead) (shard : ShardOf) (f : List ℕ) (v : Walk) → AreBytes f → base_of h.p ≤ length f → walk h shard f ≡ Ends v → Grouped h (length f) (drop (base_of h.p) f) v
+pub file_grouped : (h : StaticHead) (shard : ShardOf) (f : List ℕ) (v : Walk) → AreBytes f → base_of h.p ≤ length f → walk h shard f ≡ Ends v → Grouped h shard (length f) (drop (base_of h.p) f) v
 unfolding walk
 file_grouped h shard f v are long ends =
-    let first : Grouped h (base_of h.p) [] begin = record { bodies = []; blocks = refl; end = refl; text = refl; parted = record { groups = []; part = []; number = 0; bodies_are = refl; legal = omega arith; rest = refl } } in
+    let first : Grouped h shard (base_of h.p) [] begin = record { bodies = []; blocks = refl; end = refl; text = refl; parted = record { groups = []; part = []; number = 0; bodies_are = refl; legal = omega arith; rest = refl }; home = tt } in
     let all = walk_grouped (length f) h shard begin (base_of h.p) [] (drop (base_of h.p) f) v (bytes_drop (base_of h.p) f are) ends first in
-    subst (λ (k : ℕ). Grouped h k (drop (base_of h.p) f) v) (omega (arith, length-drop (base_of h.p) f)) all
+    subst (λ (k : ℕ). Grouped h shard k (drop (base_of h.p) f) v) (omega (arith, length-drop (base_of h.p) f)) all

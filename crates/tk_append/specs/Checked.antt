@@ -9,7 +9,7 @@ use Rattle.tk_block.specs.Text.{static_at, closing_at, base_of}
 use Rattle.tk_block.specs.declared.head.StaticHead.{StaticHead}
 use Rattle.tk_block.specs.declared.closing.Closing.{Closing}
 use Rattle.tk_append.specs.Chains.{HeadsAre}
-use Rattle.tk_append.specs.Log.{IsRead, closed_text}
+use Rattle.tk_append.specs.Log.{IsRead, AllHome, closed_text}
 use Rattle.tk_append.specs.Opening.{Walk, Ends, walk, records_in, closing_fault, end_fault, first_fault}
 use Rattle.tk_append.specs.declared.check.Found.{Found}
 
@@ -49,9 +49,10 @@ pub record IsFound (shard : ShardOf) (f : List ℕ) (found : Found) : Type 0 whe
   pub heads : HeadsAre found.head.p found.heads.items w.blocks
 
 -- a file that nothing fails in is the closed file of some groups
-pub record IsClosed (kinds : List ℕ) (writable : Bool) (f : List ℕ) (found : Found) : Type 0 where
+pub record IsClosed (kinds : List ℕ) (writable : Bool) (shard : ShardOf) (f : List ℕ) (found : Found) : Type 0 where
   pub groups : List Group
   pub read : IsRead found.head found.closing.size found.records found.heads.items found.closing.next groups
   pub text : f ≡ closed_text found.head groups found.closing.next
   pub kind : list_any (λ k. k == found.head.kind) kinds ≡ true
+  pub home : found.head.kind ≡ 1 → AllHome shard groups
   pub last : writable ≡ true → found.closing.next ≤ 2 ^ 62

@@ -1,10 +1,11 @@
 -- What the reading of a whole file answers.
 use Rattle.std.specs.Prelude.{◌≡◌, ℕ, ◌≤◌, Bool, List, Option, None, IfSome, Result, Ok, Err, OnOk, IsErrOf}
 use Rattle.tk_disk.specs.Disk.{Rose}
+use Rattle.tk_model.specs.declared.record.ShardOf.{ShardOf}
 use Rattle.tk_model.specs.declared.record.Group.{Group}
 use Rattle.tk_model.specs.declared.error.OpenError.{OpenError}
 use Rattle.tk_model.specs.declared.error.OpenError.TheVariants as errors
-use Rattle.tk_append.specs.Log.{IsRead, TellsCause, closed_text}
+use Rattle.tk_append.specs.Log.{IsRead, AllHome, TellsCause, closed_text}
 use Rattle.tk_append.specs.Checked.{IsClosed}
 use Rattle.tk_append.specs.declared.check.Found.{Found}
 use Rattle.tk_append.specs.LogParts.{log_head, log_end}
@@ -24,9 +25,10 @@ pub record HasOpenCause {T : Type 0} (before now : ℕ) (result : Result T OpenE
   pub fault : IsErrOf result errors.Fault → Rose before now
 
 -- what was read is a file of these groups, the closed file of them where the disk tells its bytes
-pub record HasRead {D : Type 0} (image : Option (List ℕ)) (r : ReadLog D) : Type 0 where
+pub record HasRead {D : Type 0} (image : Option (List ℕ)) (shard : ShardOf) (r : ReadLog D) : Type 0 where
   pub groups : List Group
   pub read : IsRead (log_head r.log) (log_end r.log) r.records r.heads.items r.next groups
+  pub home : (log_head r.log).kind ≡ 1 → AllHome shard groups
   pub text : IfSome image (λ f. f ≡ closed_text (log_head r.log) groups r.next)
 
 -- the answer of a check, as far as it speaks of the file
@@ -35,7 +37,7 @@ TellsResult (Ok x) fault = fault ≡ None
 TellsResult (Err e) fault = TellsCause e fault
 
 -- what was found is the closed file of some groups, of the disk's bytes where it tells them
-pub record IsClosedOn (image : Option (List ℕ)) (kinds : List ℕ) (writable : Bool) (found : Found) : Type 0 where
+pub record IsClosedOn (image : Option (List ℕ)) (kinds : List ℕ) (writable : Bool) (shard : ShardOf) (found : Found) : Type 0 where
   pub bytes : List ℕ
-  pub closed : IsClosed kinds writable bytes found
+  pub closed : IsClosed kinds writable shard bytes found
   pub told : IfSome image (λ f. f ≡ bytes)

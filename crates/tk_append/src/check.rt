@@ -131,7 +131,7 @@ pub(crate) fn check_bytes(
     requires shard { shard.index < shard.of }
     ensures exact { Finds result (first_fault kinds.now writable shard bytes.now) }
     ensures found { IfOk result (IsFound shard bytes.now) }
-    ensures closed { IfOk result (IsClosed kinds.now writable bytes.now) }
+    ensures closed { IfOk result (IsClosed kinds.now writable shard bytes.now) }
 {
     let head = head_in(bytes, kinds)?;
     let closing = closing_in(bytes, head.p)?;

@@ -1,8 +1,9 @@
 //! Laws, as functions that do nothing.
-ghost use Rattle.tk_append.specs.OpeningLaws.{OpensClosed};
+ghost use Rattle.tk_append.specs.OpeningLaws.{OpensClosed, OpensOnlyClosed};
 
-/// Nothing fails in the closed file of groups.
+/// Openings accept the closed files of groups, and nothing else.
 pub fn closed_files_open()
-    ensures { OpensClosed }
+    ensures closed { OpensClosed }
+    ensures only { OpensOnlyClosed }
 {
 }

@@ -85,7 +85,7 @@ fn check_disk<D: Disk>(
 ) -> Result<Found, OpenError>
     requires shard { shard.index < shard.of }
     ensures exact { IfSome (D.image disk.old) (λ f. TellsResult result (first_fault kinds.now writable shard f)) }
-    ensures closed { IfOk result (λ found. IsClosedOn (D.image disk.old) kinds.now writable found) }
+    ensures closed { IfOk result (λ found. IsClosedOn (D.image disk.old) kinds.now writable shard found) }
     ensures image { D.image disk.new ≡ D.image disk.old }
     ensures cause { HasOpenCause (D.fault_count disk.old) (D.fault_count disk.new) result }
 {
@@ -103,7 +103,7 @@ pub fn read_log<D: Disk>(
 ) -> Result<ReadLog<D>, Unopened<D>>
     requires shard { shard.index < shard.of }
     ensures exact { IfSome (D.image disk) (λ f. Tells result (first_fault kinds.now writable shard f)) }
-    ensures found { IfOk result (HasRead (D.image disk)) }
+    ensures found { IfOk result (HasRead (D.image disk) shard) }
     ensures kind { IfOk result (λ r. list_any (λ k. k == (log_head r.log).kind) kinds.now ≡ true) }
     ensures last { IfOk result (λ r. writable ≡ true → r.next ≤ 2 ^ 62) }
     ensures image { IfOk result (λ r. D.image (log_disk r.log) ≡ D.image disk) }
