@@ -6,7 +6,7 @@ ghost use Rattle.tk_append.specs.Opening.{first_fault};
 ghost use Rattle.tk_append.specs.Log.{Tells};
 ghost use Rattle.tk_append.specs.LogParts.{log_disk, log_head};
 ghost use Rattle.tk_append.specs.Checked.{Finds, IsClosed};
-ghost use Rattle.tk_append.specs.Read.{IsOutside, HasOpenCause, HasRead, IsClosedOn, TellsResult};
+ghost use Rattle.tk_append.specs.Read.{IsOutside, HasOpenCause, HasRead, IsClosedOn, OnlyReads, TellsResult};
 
 use crate::check::{Found, check_bytes};
 use crate::hashed::HashedRecords;
@@ -29,6 +29,7 @@ fn length_of<D: Disk>(disk: &mut D) -> Result<u64, OpenError>
     ensures image { D.image disk.new ≡ D.image disk.old }
     ensures outside { IfErr result IsOutside }
     ensures cause { HasOpenCause (D.fault_count disk.old) (D.fault_count disk.new) result }
+    ensures still { OnlyReads D.may_leave D.moment D.left_since disk.old disk.new }
 {
     match disk.len() {
         Ok(len) => Ok(len),
@@ -44,6 +45,7 @@ fn fill<D: Disk>(disk: &mut D, into: &mut [u8]) -> Result<usize, OpenError>
     ensures image { D.image disk.new ≡ D.image disk.old }
     ensures outside { IfErr result IsOutside }
     ensures cause { HasOpenCause (D.fault_count disk.old) (D.fault_count disk.new) result }
+    ensures still { OnlyReads D.may_leave D.moment D.left_since disk.old disk.new }
 {
     match disk.read_at(0, into) {
         Ok(got) => Ok(got),
@@ -67,6 +69,7 @@ fn read_all<D: Disk>(alloc: Global, disk: &mut D) -> Result<Vec<u8>, OpenError>
     ensures image { D.image disk.new ≡ D.image disk.old }
     ensures outside { IfErr result IsOutside }
     ensures cause { HasOpenCause (D.fault_count disk.old) (D.fault_count disk.new) result }
+    ensures still { OnlyReads D.may_leave D.moment D.left_since disk.old disk.new }
 {
     let len = length_of(disk)?;
     let mut bytes = zeros(alloc, len)?;
@@ -88,6 +91,7 @@ fn check_disk<D: Disk>(
     ensures closed { IfOk result (λ found. IsClosedOn (D.image disk.old) kinds.now writable shard found) }
     ensures image { D.image disk.new ≡ D.image disk.old }
     ensures cause { HasOpenCause (D.fault_count disk.old) (D.fault_count disk.new) result }
+    ensures still { OnlyReads D.may_leave D.moment D.left_since disk.old disk.new }
 {
     let bytes = read_all(alloc, disk)?;
     check_bytes(alloc, &bytes, kinds, writable, shard)
@@ -108,6 +112,8 @@ pub fn read_log<D: Disk>(
     ensures last { IfOk result (λ r. writable ≡ true → r.next ≤ 2 ^ 62) }
     ensures image { IfOk result (λ r. D.image (log_disk r.log) ≡ D.image disk) }
     ensures back { IfErr result (λ u. D.image u.disk ≡ D.image disk) }
+    ensures still { IfOk result (λ r. OnlyReads D.may_leave D.moment D.left_since disk (log_disk r.log)) }
+    ensures back_still { IfErr result (λ u. OnlyReads D.may_leave D.moment D.left_since disk u.disk) }
     ensures counted { IfOk result (λ r. D.fault_count (log_disk r.log) ≡ D.fault_count disk) }
     ensures later { IfErr result (λ u. D.fault_count disk ≤ D.fault_count u.disk) }
     ensures cause { IfErr result (λ u. u.cause ≡ OpenError.Fault → Rose (D.fault_count disk) (D.fault_count u.disk)) }
