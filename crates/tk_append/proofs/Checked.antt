@@ -16,9 +16,9 @@ use Rattle.tk_block.specs.declared.head.StaticHead.{StaticHead}
 use Rattle.tk_block.specs.declared.closing.Closing.{Closing}
 use Rattle.tk_append.specs.Chains.{HeadsAre}
 use Rattle.tk_append.specs.Opening.{Walk, Outcome, Ends, count_fault, broken_at, place_in, first_fault, static_fault, closing_fault, end_fault, head_fault, walk, broken_unless}
-use Rattle.tk_append.specs.Walked.{NewestIn, living, begun_at}
+use Rattle.tk_append.specs.Walked.{NewestIn, live_head, as_open}
 use Rattle.tk_append.specs.Checked.{HeadIn, ClosingIn, Finds, FindsCause}
-use Rattle.tk_append.specs.declared.walker.Begun.{Begun}
+use Rattle.tk_append.specs.declared.walker.OpenGroup.{OpenGroup}
 
 pub static_small : (h : StaticHead) → is_static h ≡ true → h.p ≤ 24
 static_small h is = grind (arith, nat_tests)
@@ -99,7 +99,7 @@ head_other p n m bucket heads blocks f are within is other =
 -- heads that were settled as far as this
 pub record Settled (old now : List ℕ) (cleared i : ℕ) : Type 0 where
   pub same : length now ≡ length old
-  pub done : (b : ℕ) → b < i → get_or now b 0 ≡ living cleared (get_or old b 0)
+  pub done : (b : ℕ) → b < i → get_or now b 0 ≡ live_head cleared (get_or old b 0)
   pub left : (b : ℕ) → i ≤ b → get_or now b 0 ≡ get_or old b 0
 
 pub settled_all : (p place : ℕ) (old now : List ℕ) (cleared i : ℕ) (blocks : List Placed) → Settled old now cleared i → length now ≤ i → NewestIn p place old cleared blocks → HeadsAre p now blocks
@@ -108,14 +108,14 @@ settled_all p place old now cleared i blocks s all are = record {
   newest_each = λ b below. s.done b (omega (arith, s.same, are.whole)) ∙ are.newest_each b below;
 }
 
-no_first : (o : Option Placed) → option_map begun_at o ≡ None → o ≡ None
+no_first : (o : Option Placed) → option_map as_open o ≡ None → o ≡ None
 no_first None is = refl
 no_first (Some x) is = absurd (cc is)
 
-pub none_begun : (w : Walk) (begun : Option Begun) → begun ≡ option_map begun_at w.begun → begun ≡ None → w.begun ≡ None
-none_begun w begun is none = no_first w.begun (sym is ∙ none)
+pub none_open : (w : Walk) (open_group : Option OpenGroup) → open_group ≡ option_map as_open w.open_group → open_group ≡ None → w.open_group ≡ None
+none_open w open_group is none = no_first w.open_group (sym is ∙ none)
 
-pub end_told : (writable : Bool) (h : StaticHead) (c : Closing) (f : List ℕ) (w : Walk) (o : Option ℕ) → w.begun ≡ None → o ≡ head_fault h.p w.blocks f (2 ^ h.p) 0
+pub end_told : (writable : Bool) (h : StaticHead) (c : Closing) (f : List ℕ) (w : Walk) (o : Option ℕ) → w.open_group ≡ None → o ≡ head_fault h.p w.blocks f (2 ^ h.p) 0
     → end_fault writable h c f (Ends w) ≡ broken_at o (count_fault writable c w)
 end_told writable h c f w o whole is =
     ap (λ (b : Option Placed). broken_at (place_in b) (broken_at (head_fault h.p w.blocks f (2 ^ h.p) 0) (count_fault writable c w))) whole

@@ -54,7 +54,7 @@ pub record Sound (kinds : List ℕ) (writable : Bool) (f : List ℕ) (h : Static
   pub kind : list_any (λ k. k == h.kind) kinds ≡ true
   pub size : c.size ≡ length f
   pub long : base_of h.p ≤ length f
-  pub whole : place_in w.begun ≡ None
+  pub whole : place_in w.open_group ≡ None
   pub heads : head_fault h.p w.blocks f (2 ^ h.p) 0 ≡ None
   pub count : c.count ≡ length (records_in w.blocks)
   pub least : w.least ≤ c.next
@@ -72,7 +72,7 @@ sound kinds writable shard f h c w head closing ends none =
     let t1 = unless _ 8 (closing_fault writable h shard f (closing_at (drop 32 f))) (ap (static_fault kinds writable shard f) (sym head) ∙ t0.1) in
     let t2 = unless _ 32 (end_fault writable h c f (walk h shard f)) (ap (closing_fault writable h shard f) (sym closing) ∙ t1.1) in
     let sizes = two_true _ _ t2.0 in
-    let t3 = at_none (place_in w.begun) (broken_at (head_fault h.p w.blocks f (2 ^ h.p) 0) (count_fault writable c w)) (ap (end_fault writable h c f) (sym ends) ∙ t2.1) in
+    let t3 = at_none (place_in w.open_group) (broken_at (head_fault h.p w.blocks f (2 ^ h.p) 0) (count_fault writable c w)) (ap (end_fault writable h c f) (sym ends) ∙ t2.1) in
     let t4 = at_none (head_fault h.p w.blocks f (2 ^ h.p) 0) (count_fault writable c w) t3.1 in
     let t5 = unless _ 32 (broken_unless (not writable || nat_le c.next (2 ^ 62)) 48 None) t4.1 in
     let counts = two_true _ _ t5.0 in
@@ -176,7 +176,7 @@ whole_text h f groups c head closing size heads blocks =
     whole ∙ append_assoc (static_text h ++ closing_text c) (heads_text h.p (blocks_of h groups)) rest
     ∙ ap (λ (n : ℕ). (static_text h ++ closing_text (record { size = n; count = c.count; next = c.next })) ++ (heads_text h.p (blocks_of h groups) ++ rest)) size
 
-no_part : (least : ℕ) (begun : Option Placed) (number : ℕ) (part : List Change) → begun ≡ None → IsPart least begun number part → part ≡ []
+no_part : (least : ℕ) (open_group : Option Placed) (number : ℕ) (part : List Change) → open_group ≡ None → IsPart least open_group number part → part ≡ []
 no_part least None number part is rest = rest
 no_part least (Some x) number part is rest = absurd (cc is)
 
@@ -213,12 +213,12 @@ record Made (shard : ShardOf) (f : List ℕ) (h : StaticHead) (c : Closing) (w :
   text : f ≡ closed_text h groups c.next
 
 made : (kinds : List ℕ) (writable : Bool) (shard : ShardOf) (f : List ℕ) (h : StaticHead) (c : Closing) (w : Walk) → AreBytes f → static_at f ≡ Some h → closing_at (drop 32 f) ≡ Some c → walk h shard f ≡ Ends w
-    → w.begun ≡ None → Sound kinds writable f h c w → Made shard f h c w
+    → w.open_group ≡ None → Sound kinds writable f h c w → Made shard f h c w
 made kinds writable shard f h c w are head closing ends whole s =
     let g = file_grouped h shard f w are s.long ends in
     let groups = g.parted.groups in
     let bodies : g.bodies ≡ bodies_of groups =
-    g.parted.bodies_are ∙ ap (λ (l : List Change). bodies_of groups ++ part_bodies g.parted.number l) (no_part w.least w.begun g.parted.number g.parted.part whole g.parted.rest) ∙ append-nil (bodies_of groups) in
+    g.parted.bodies_are ∙ ap (λ (l : List Change). bodies_of groups ++ part_bodies g.parted.number l) (no_part w.least w.open_group g.parted.number g.parted.part whole g.parted.rest) ∙ append-nil (bodies_of groups) in
     let blocks : w.blocks ≡ blocks_of h groups = g.blocks ∙ ap (laid (base_of h.p)) bodies in
     let end : c.size ≡ end_of (base_of h.p) (bodies_of groups) = s.size ∙ g.end ∙ ap (end_of (base_of h.p)) bodies in
     let records : records_in w.blocks ≡ replay Hash groups [] = ap records_in blocks ∙ replayed (base_of h.p) groups [] in
@@ -258,15 +258,15 @@ closed_is kinds writable shard f found are none is =
       last = s.last;
     }
 
-no_begun : (o : Option Placed) → place_in o ≡ None → o ≡ None
-no_begun None is = refl
-no_begun (Some x) is = absurd (cc is)
+no_open : (o : Option Placed) → place_in o ≡ None → o ≡ None
+no_open None is = refl
+no_open (Some x) is = absurd (cc is)
 
 all_read : (kinds : List ℕ) (writable : Bool) (shard : ShardOf) (f : List ℕ) (h : StaticHead) (c : Closing) (w : Walk) → AreBytes f → static_at f ≡ Some h → closing_at (drop 32 f) ≡ Some c → walk h shard f ≡ Ends w
     → first_fault kinds writable shard f ≡ None → IsClosedFile kinds writable shard f
 all_read kinds writable shard f h c w are head closing ends none =
     let s = sound kinds writable shard f h c w head closing ends none in
-    let m = made kinds writable shard f h c w are head closing ends (no_begun w.begun s.whole) s in
+    let m = made kinds writable shard f h c w are head closing ends (no_open w.open_group s.whole) s in
     let fits = (closing_found (drop 32 f) c closing).0 in
     record {
       h = h;

@@ -16,7 +16,7 @@ use Rattle.tk_block.specs.Layout.{Placed, bodies_of}
 use Rattle.tk_block.proofs.Bodies.{two_true}
 use Rattle.tk_block.proofs.Layouts.{bodies_of-append}
 use Rattle.tk_append.specs.Log.{AreGroups}
-use Rattle.tk_append.specs.Opening.{change_in, is_in_turn, begun_by}
+use Rattle.tk_append.specs.Opening.{change_in, is_in_turn, opened_by}
 use Rattle.tk_append.specs.Walked.{IsOfKind}
 
 nil_is : (xs : List ℕ) → is_nil xs ≡ true → xs ≡ []
@@ -139,13 +139,13 @@ IsPart least None number part = part ≡ []
 IsPart least (Some x) number part = (x.body.number ≡ number) × (least ≤ number) × HasNoClear part × AllFit part
 
 -- groups and a part of one more
-pub record Parted (bodies : List Body) (least : ℕ) (begun : Option Placed) : Type 0 where
+pub record Parted (bodies : List Body) (least : ℕ) (open_group : Option Placed) : Type 0 where
   pub groups : List Group
   pub part : List Change
   pub number : ℕ
   pub bodies_are : bodies ≡ bodies_of groups ++ part_bodies number part
   pub legal : AreGroups 0 least groups
-  pub rest : IsPart least begun number part
+  pub rest : IsPart least open_group number part
 
 -- a group is complete
 closed : (bodies : List Body) (least n : ℕ) (groups : List Group) (part : List Change) (c : Change) → bodies ≡ bodies_of groups ++ part_bodies n part → AreGroups 0 least groups → least ≤ n → AllFit part → AllFit (c ∷ []) → IsClearAlone (part ++ c ∷ [])
@@ -186,9 +186,9 @@ or_false : (x : Bool) → (x || false) ≡ true → x ≡ true
 or_false true is = refl
 or_false false is = absurd (cc is)
 
-grown : (bodies : List Body) (least : ℕ) (begun : Option Placed) (n : ℕ) (c : Change) (last : Bool) (place : ℕ) (groups : List Group) (part : List Change) (m : ℕ)
-    → bodies ≡ bodies_of groups ++ part_bodies m part → AreGroups 0 least groups → IsPart least begun m part → is_in_turn least begun (body_of n c last) ≡ true → AllFit (c ∷ [])
-    → Parted (bodies ++ body_of n c last ∷ []) (cond last (n + 1) least) (begun_by begun (record { place = place; body = body_of n c last }))
+grown : (bodies : List Body) (least : ℕ) (open_group : Option Placed) (n : ℕ) (c : Change) (last : Bool) (place : ℕ) (groups : List Group) (part : List Change) (m : ℕ)
+    → bodies ≡ bodies_of groups ++ part_bodies m part → AreGroups 0 least groups → IsPart least open_group m part → is_in_turn least open_group (body_of n c last) ≡ true → AllFit (c ∷ [])
+    → Parted (bodies ++ body_of n c last ∷ []) (cond last (n + 1) least) (opened_by open_group (record { place = place; body = body_of n c last }))
 grown bodies least None n c true place groups part m are legal rest turn fits =
     closed bodies least n groups [] c (empty_part bodies n m groups part rest are) legal (leb-true _ _ (two_true _ _ turn).0) tt fits (alone c)
 grown bodies least None n c false place groups part m are legal rest turn fits =
@@ -205,10 +205,10 @@ grown bodies least (Some x) n c false place groups part m are legal rest turn fi
     going bodies least n groups part c x (subst (λ (k : ℕ). bodies ≡ bodies_of groups ++ part_bodies k part) same are) legal (subst (λ (k : ℕ). least ≤ k) same rest.1) (sym (eqb-true _ _ t.0)) rest.2 rest.3 (none_clear c t.1) fits
 
 -- groups with one block more
-pub parted_more : (bodies : List Body) (least : ℕ) (begun : Option Placed) (b : Body) (place : ℕ) → Parted bodies least begun → FitsBody b → IsOfKind b → is_in_turn least begun b ≡ true
-    → Parted (bodies ++ b ∷ []) (cond b.last (b.number + 1) least) (begun_by begun (record { place = place; body = b }))
-parted_more bodies least begun b place so_far fits of_kind turn =
+pub parted_more : (bodies : List Body) (least : ℕ) (open_group : Option Placed) (b : Body) (place : ℕ) → Parted bodies least open_group → FitsBody b → IsOfKind b → is_in_turn least open_group b ≡ true
+    → Parted (bodies ++ b ∷ []) (cond b.last (b.number + 1) least) (opened_by open_group (record { place = place; body = b }))
+parted_more bodies least open_group b place so_far fits of_kind turn =
     let is = body_is b fits.0 of_kind in
-    subst (λ (x : Body). Parted (bodies ++ x ∷ []) (cond b.last (b.number + 1) least) (begun_by begun (record { place = place; body = x }))) is
-    (grown bodies least begun b.number (change_in b) b.last place so_far.groups so_far.part so_far.number so_far.bodies_are so_far.legal so_far.rest
-    (subst (λ (x : Body). is_in_turn least begun x ≡ true) (sym is) turn) (change_fits (change_in b) b.number b.last (subst FitsBody (sym is) fits)))
+    subst (λ (x : Body). Parted (bodies ++ x ∷ []) (cond b.last (b.number + 1) least) (opened_by open_group (record { place = place; body = x }))) is
+    (grown bodies least open_group b.number (change_in b) b.last place so_far.groups so_far.part so_far.number so_far.bodies_are so_far.legal so_far.rest
+    (subst (λ (x : Body). is_in_turn least open_group x ≡ true) (sym is) turn) (change_fits (change_in b) b.number b.last (subst FitsBody (sym is) fits)))

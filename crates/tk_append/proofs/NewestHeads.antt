@@ -8,18 +8,18 @@ use Rattle.std.proofs.lemmas.List.{length-replicate, get_or-replicate, length-se
 use Rattle.tk_block.specs.declared.block.Body.{Body}
 use Rattle.tk_block.specs.Layout.{Placed, newest, renewed, is_in, bucket_in}
 use Rattle.tk_block.proofs.Layouts.{newest-append}
-use Rattle.tk_append.specs.Walked.{NewestIn, IsOfKind, living}
+use Rattle.tk_append.specs.Walked.{NewestIn, IsOfKind, live_head}
 
-lives : (cleared head : ℕ) → cleared < head → living cleared head ≡ head
+lives : (cleared head : ℕ) → cleared < head → live_head cleared head ≡ head
 lives cleared head behind = let t : nat_lt cleared head ≡ true = grind (arith, nat_tests) in rw t refl
 
-lived : (cleared head : ℕ) → head ≤ cleared → living cleared head ≡ 0
+lived : (cleared head : ℕ) → head ≤ cleared → live_head cleared head ≡ 0
 lived cleared head behind = let t : nat_lt cleared head ≡ false = grind (arith, nat_tests) in rw t refl
 
 pub heads_begin : (p place : ℕ) (heads : List ℕ) → heads ≡ replicate (2 ^ p) 0 → 0 < place → NewestIn p place heads 0 []
 heads_begin p place heads is some = subst (λ (l : List ℕ). NewestIn p place l 0 []) (sym is) (record {
   whole = length-replicate (2 ^ p) 0;
-  newest_each = λ b below. ap (living 0) (get_or-replicate {A = ℕ} (2 ^ p) b 0 0 below);
+  newest_each = λ b below. ap (live_head 0) (get_or-replicate {A = ℕ} (2 ^ p) b 0 0 below);
   below = λ b below. omega (arith, get_or-replicate {A = ℕ} (2 ^ p) b 0 0 below);
   behind = some;
 })
@@ -48,13 +48,13 @@ renewed_at p k found place b of_kind is =
     ap (λ (v : Bool). cond v 0 (cond (is_in p k b) place found)) is ∙ ap (λ (v : Bool). cond v place found) (kind_in p k b of_kind is)
 
 newest_put : (p place cleared slot k : ℕ) (heads : List ℕ) (blocks : List Placed) (b : Body) → slot ≡ bucket_in p b.key → slot < length heads → cleared < place
-    → living cleared (get_or heads k 0) ≡ newest p k 0 blocks → living cleared (get_or (set heads slot place) k 0) ≡ cond (eqb (bucket_in p b.key) k) place (newest p k 0 blocks)
+    → live_head cleared (get_or heads k 0) ≡ newest p k 0 blocks → live_head cleared (get_or (set heads slot place) k 0) ≡ cond (eqb (bucket_in p b.key) k) place (newest p k 0 blocks)
 newest_put p place cleared slot k heads blocks b here below behind was = elim (cases_eq (bucket_in p b.key) k) [
   | inl e ↦
-      ap (λ (i : ℕ). living cleared (get_or (set heads slot place) i 0)) (sym e ∙ sym here) ∙ ap (living cleared) (get_or-set_same heads slot place 0 below) ∙ lives cleared place behind
+      ap (λ (i : ℕ). live_head cleared (get_or (set heads slot place) i 0)) (sym e ∙ sym here) ∙ ap (live_head cleared) (get_or-set_same heads slot place 0 below) ∙ lives cleared place behind
       ∙ sym (ap (λ (v : Bool). cond v place (newest p k 0 blocks)) (eq-eqb _ _ e))
   | inr ne ↦
-      ap (living cleared) (get_or-set_other heads slot k place 0 (λ h. ne (sym (h ∙ here)))) ∙ was
+      ap (live_head cleared) (get_or-set_other heads slot k place 0 (λ h. ne (sym (h ∙ here)))) ∙ was
       ∙ sym (ap (λ (v : Bool). cond v place (newest p k 0 blocks)) (ne_eqb _ _ ne))
 ]
 

@@ -34,7 +34,7 @@ use Rattle.tk_block.proofs.BlockReads.{block_head, block_body, block_link, block
 use Rattle.tk_block.proofs.Lengths.{length-block_text, length-heads_below, length-file_text}
 use Rattle.tk_block.proofs.Layouts.{newest-append, length-laid}
 use Rattle.tk_append.specs.Log.{AreGroups, AllIn, AllHome, blocks_of, closed_text}
-use Rattle.tk_append.specs.Opening.{Walk, Outcome, Ends, begin, walk, walk_on, walked, may_stand, is_in_turn, is_home, is_padded, begun_by, change_in, records_in, broken_unless, broken_at, place_in, head_fault, count_fault, end_fault, closing_fault, static_fault, first_fault}
+use Rattle.tk_append.specs.Opening.{Walk, Outcome, Ends, begin, walk, walk_on, walked, may_stand, is_in_turn, is_home, is_padded, opened_by, change_in, records_in, broken_unless, broken_at, place_in, head_fault, count_fault, end_fault, closing_fault, static_fault, first_fault}
 use Rattle.tk_append.specs.OpeningLaws.{MayOpen, OpensClosed}
 use Rattle.tk_append.specs.Walked.{MayFollow}
 use Rattle.tk_append.proofs.Layouts.{end_of-least}
@@ -42,11 +42,11 @@ use Rattle.tk_append.proofs.WalkerSteps.{walk_next, goes_on}
 use Rattle.tk_append.proofs.ClosedFiles.{changes_of, replayed}
 
 -- bodies that may follow one another, and end with a whole group
-abbrev Fit : (next : ℕ) (h : StaticHead) (shard : ShardOf) (least : ℕ) (begun : Option Placed) (place : ℕ) → List Body → Type 0
-Fit next h shard least begun place [] = (begun ≡ None) × (least ≤ next)
-Fit next h shard least begun place (b ∷ bs) =
-    FitsBody b × (not (b.kind == 3) ≡ true) × (is_in_turn least begun b ≡ true) × (is_home h shard b ≡ true)
-    × Fit next h shard (cond b.last (b.number + 1) least) (begun_by begun (record { place = place; body = b })) (place + extent_of b) bs
+abbrev Fit : (next : ℕ) (h : StaticHead) (shard : ShardOf) (least : ℕ) (open_group : Option Placed) (place : ℕ) → List Body → Type 0
+Fit next h shard least open_group place [] = (open_group ≡ None) × (least ≤ next)
+Fit next h shard least open_group place (b ∷ bs) =
+    FitsBody b × (not (b.kind == 3) ≡ true) × (is_in_turn least open_group b ≡ true) × (is_home h shard b ≡ true)
+    × Fit next h shard (cond b.last (b.number + 1) least) (opened_by open_group (record { place = place; body = b })) (place + extent_of b) bs
 
 small_one : (c : Change) → AllFit (c ∷ []) → IsSmall (key_of c) (value_of c)
 small_one (Put p) fit = record { key_fits = omega (arith, fit.0); value_fits = fit.1 }
@@ -158,7 +158,7 @@ newest_more : (p k m : ℕ) (blocks : List Placed) (x : Placed) → newest p k 0
 newest_more p k m blocks x below here =
     subst (λ (n : ℕ). n < m) (sym (newest-append p k 0 blocks (x ∷ []))) (renewed_small p k (newest p k 0 blocks) m x below here)
 
-may_stand_there : (h : StaticHead) (shard : ShardOf) (w : Walk) (place link : ℕ) (b : Body) (rest : List ℕ) → not (b.kind == 3) ≡ true → is_in_turn w.least w.begun b ≡ true → is_home h shard b ≡ true
+may_stand_there : (h : StaticHead) (shard : ShardOf) (w : Walk) (place link : ℕ) (b : Body) (rest : List ℕ) → not (b.kind == 3) ≡ true → is_in_turn w.least w.open_group b ≡ true → is_home h shard b ≡ true
     → may_stand h shard w (block_text b place link ++ rest) (extent_of b) b ≡ true
 may_stand_there h shard w place link b rest other turn home =
     let bytes = block_text b place link ++ rest in
@@ -171,10 +171,10 @@ record Reread (next : ℕ) (h : StaticHead) (shard : ShardOf) (n : ℕ) (w : Wal
   v : Walk
   ends : walk_on n h shard w place (texts (laid place bs) (links_of h.p w.blocks (laid place bs))) ≡ Ends v
   blocks : v.blocks ≡ w.blocks ++ laid place bs
-  whole : v.begun ≡ None
+  whole : v.open_group ≡ None
   least : v.least ≤ next
 
-walk_texts : (next : ℕ) (h : StaticHead) (shard : ShardOf) (n : ℕ) (w : Walk) (place : ℕ) (bs : List Body) → length bs ≤ n → Fit next h shard w.least w.begun place bs → end_of place bs < 2 ^ 64
+walk_texts : (next : ℕ) (h : StaticHead) (shard : ShardOf) (n : ℕ) (w : Walk) (place : ℕ) (bs : List Body) → length bs ≤ n → Fit next h shard w.least w.open_group place bs → end_of place bs < 2 ^ 64
     → ((k : ℕ) → newest h.p k 0 w.blocks < 2 ^ 64) → Reread next h shard n w place bs
 walk_texts next h shard n w place [] fuel fit end below = record { v = w; ends = refl; blocks = sym (append-nil w.blocks); whole = fit.0; least = fit.1 }
 walk_texts next h shard zero w place (b ∷ bs) fuel fit end below = absurd (omega arith)
@@ -296,7 +296,7 @@ may_be_written true next last = le-leb _ _ (last refl)
 may_be_written false next last = refl
 
 none_at : (kinds : List ℕ) (writable : Bool) (shard : ShardOf) (h : StaticHead) (c : Closing) (f : List ℕ) (v : Walk) → 64 ≤ length f → static_at f ≡ Some h → list_any (λ k. k == h.kind) kinds ≡ true
-    → closing_at (drop 32 f) ≡ Some c → c.size ≡ length f → base_of h.p ≤ c.size → walk h shard f ≡ Ends v → v.begun ≡ None → head_fault h.p v.blocks f (2 ^ h.p) 0 ≡ None
+    → closing_at (drop 32 f) ≡ Some c → c.size ≡ length f → base_of h.p ≤ c.size → walk h shard f ≡ Ends v → v.open_group ≡ None → head_fault h.p v.blocks f (2 ^ h.p) 0 ≡ None
     → c.count ≡ length (records_in v.blocks) → v.least ≤ c.next → (writable ≡ true → c.next ≤ 2 ^ 62) → first_fault kinds writable shard f ≡ None
 unfolding first_fault
 none_at kinds writable shard h c f v long head kind closing size base ends whole heads count least last =

@@ -8,7 +8,7 @@ use Rattle.tk_model.specs.declared.error.OpenError.TheVariants.{NotADatabase, Br
 use Rattle.tk_model.specs.declared.error.OpenError.{OpenError}
 use Rattle.tk_block.specs.Layout.{Placed, link_of}
 use Rattle.tk_block.specs.Number.{u64_in}
-use Rattle.tk_append.specs.declared.walker.Standing.{Standing}
+use Rattle.tk_append.specs.declared.walker.FoundBlock.{FoundBlock}
 use Rattle.tk_append.specs.declared.walker.Walker.{Walker}
 use Rattle.tk_model.specs.Records.{after, after_one}
 use Rattle.tk_model.specs.declared.record.Order.TheVariants.{Hash}
@@ -23,8 +23,8 @@ use Rattle.tk_block.proofs.Bodies.{two_true}
 use Rattle.tk_block.proofs.BodyGrammar.{bodies}
 use Rattle.tk_block.specs.Blocks.{said, extent_of, body_at, body_text, body_in, check_in, is_body}
 use Rattle.tk_block.specs.Grammar.{Reads, FitsBody}
-use Rattle.tk_append.specs.Opening.{Walk, Outcome, FailsAt, Ends, begin, walk, walk_on, walk_block, walked, may_stand, is_padded, is_in_turn, is_home, change_in, records_in, begun_by}
-use Rattle.tk_append.specs.Walked.{HasNone, HasBlock, MayFollow, Fails, IsAt, NewestIn, IsOfKind, Passed, WalkedAll, WalkFails, least_behind, begun_at}
+use Rattle.tk_append.specs.Opening.{Walk, Outcome, FailsAt, Ends, begin, walk, walk_on, walk_block, walked, may_stand, is_padded, is_in_turn, is_home, change_in, records_in, opened_by}
+use Rattle.tk_append.specs.Walked.{HasNone, HasBlock, MayFollow, Fails, IsAt, NewestIn, IsOfKind, Passed, WalkedAll, WalkFails, least_behind, as_open}
 
 no_body : (place : ℕ) → body_at [] place ≡ None
 unfolding body_at
@@ -52,7 +52,7 @@ pub record Stood (h : StaticHead) (shard : ShardOf) (w : Walk) (bytes : List ℕ
   pub least : 48 ≤ extent
   pub other : not (b.kind == 3) ≡ true
   pub padding : is_padded bytes extent b ≡ true
-  pub turn : is_in_turn w.least w.begun b ≡ true
+  pub turn : is_in_turn w.least w.open_group b ≡ true
   pub home : is_home h shard b ≡ true
 
 pub stood : (h : StaticHead) (shard : ShardOf) (w : Walk) (bytes : List ℕ) (extent : ℕ) (b : Body) → may_stand h shard w bytes extent b ≡ true → Stood h shard w bytes extent b
@@ -89,13 +89,13 @@ block_is h shard w place e bytes b go head body =
     ap (λ (o : Option ℕ). walk_block h shard w place bytes o (body_at (drop 24 bytes) place) go) head ∙ ap (λ (o : Option Body). walk_block h shard w place bytes (Some e) o go) body
 
 -- a block that may not stand there
-pub fails_stand : (h : StaticHead) (shard : ShardOf) (w : Walk) (place : ℕ) (bytes : List ℕ) (s : Standing) → HasBlock place bytes s → may_stand h shard w bytes s.extent (said s.block) ≡ false
+pub fails_stand : (h : StaticHead) (shard : ShardOf) (w : Walk) (place : ℕ) (bytes : List ℕ) (s : FoundBlock) → HasBlock place bytes s → may_stand h shard w bytes s.extent (said s.block) ≡ false
     → Fails h shard w place bytes (BrokenAt place)
 fails_stand h shard w place bytes s has not_so go =
     block_is h shard w place s.extent bytes (said s.block) go has.head has.body ∙ rw not_so refl
 
 -- a block with another link
-pub fails_link : (h : StaticHead) (shard : ShardOf) (w : Walk) (place : ℕ) (bytes : List ℕ) (s : Standing) → HasBlock place bytes s → may_stand h shard w bytes s.extent (said s.block) ≡ true
+pub fails_link : (h : StaticHead) (shard : ShardOf) (w : Walk) (place : ℕ) (bytes : List ℕ) (s : FoundBlock) → HasBlock place bytes s → may_stand h shard w bytes s.extent (said s.block) ≡ true
     → (u64_in bytes 16 == link_of h.p w.blocks (said s.block)) ≡ false → Fails h shard w place bytes (BrokenAt (place + 16))
 fails_link h shard w place bytes s has so other go =
     block_is h shard w place s.extent bytes (said s.block) go has.head has.body ∙ rw (so, other) refl
@@ -117,17 +117,17 @@ records_more blocks x = after_more blocks x []
 -- the walker behind one block more
 pub walked_on : (p place next : ℕ) (old headed new : Walker) (w : Walk) (b : Body) (change : Change) (records : List Pair)
     → IsAt p place old w → change ≡ change_in b → records ≡ after_one Hash change old.records
-    → NewestIn p next headed.heads.items headed.cleared (w.blocks ++ record { place = place; body = b } ∷ []) → headed.records ≡ records → headed.before ≡ old.before → headed.begun ≡ old.begun
+    → NewestIn p next headed.heads.items headed.cleared (w.blocks ++ record { place = place; body = b } ∷ []) → headed.records ≡ records → headed.before ≡ old.before → headed.open_group ≡ old.open_group
     → new.heads.items ≡ headed.heads.items → new.cleared ≡ headed.cleared → new.records ≡ headed.records
     → ((least : ℕ) → least ≡ least_behind headed.before → cond b.last (b.number + 1) least ≡ least_behind new.before)
-    → ((first : Option Placed) → headed.begun ≡ option_map begun_at first → new.begun ≡ option_map begun_at (begun_by first (record { place = place; body = b })))
+    → ((first : Option Placed) → headed.open_group ≡ option_map as_open first → new.open_group ≡ option_map as_open (opened_by first (record { place = place; body = b })))
     → IsAt p next new (walked w (record { place = place; body = b }))
-walked_on p place next old headed new w b change records at is done heads kept before begun items cleared same least first = record {
+walked_on p place next old headed new w b change records at is done heads kept before open_group items cleared same least first = record {
   heads = subst (λ (l : List ℕ). NewestIn p next l new.cleared (w.blocks ++ record { place = place; body = b } ∷ [])) (sym items)
       (subst (λ (n : ℕ). NewestIn p next headed.heads.items n (w.blocks ++ record { place = place; body = b } ∷ [])) (sym cleared) heads);
   records = same ∙ kept ∙ done ∙ ap (λ (c : Change). after_one Hash c old.records) is ∙ ap (after_one Hash (change_in b)) at.records ∙ sym (records_more w.blocks (record { place = place; body = b }));
   least = least w.least (at.least ∙ ap least_behind (sym before));
-  begun = first w.begun (begun ∙ at.begun);
+  open_group = first w.open_group (open_group ∙ at.open_group);
 }
 
 kinds_left : (b : Body) → is_body b ≡ true → not (b.kind == 3) ≡ true → IsOfKind b

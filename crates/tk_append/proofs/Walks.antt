@@ -41,7 +41,7 @@ pub record Grouped (h : StaticHead) (shard : ShardOf) (place : ℕ) (front : Lis
   pub blocks : w.blocks ≡ laid (base_of h.p) bodies
   pub end : place ≡ end_of (base_of h.p) bodies
   pub text : front ≡ texts w.blocks (links_of h.p [] w.blocks)
-  pub parted : Parted bodies w.least w.begun
+  pub parted : Parted bodies w.least w.open_group
   pub home : AllAtHome h shard bodies
 
 -- the text of a block that follows
@@ -79,7 +79,7 @@ grouped_more h shard w place e front bytes b are f g =
           ap (λ (l : List ℕ). l ++ take e bytes) g.text
           ∙ ap (λ (l : List ℕ). texts w.blocks (links_of h.p [] w.blocks) ++ l) (follows_text h shard w place e bytes b are f)
           ∙ sym (texts_more h.p w.blocks x);
-      parted = parted_more g.bodies w.least w.begun b place g.parted fits (of_kind bytes e h shard w b fits.0 f.stands) s.turn;
+      parted = parted_more g.bodies w.least w.open_group b place g.parted fits (of_kind bytes e h shard w b fits.0 f.stands) s.turn;
       home = home_more h shard g.bodies b g.home s.home;
     }
 

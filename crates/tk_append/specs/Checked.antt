@@ -44,7 +44,7 @@ pub record IsFound (shard : ShardOf) (f : List ℕ) (found : Found) : Type 0 whe
   pub closing : closing_at (drop 32 f) ≡ Some found.closing
   pub w : Walk
   pub ends : walk found.head shard f ≡ Ends w
-  pub whole : w.begun ≡ None
+  pub whole : w.open_group ≡ None
   pub records : found.records ≡ records_in w.blocks
   pub heads : HeadsAre found.head.p found.heads.items w.blocks
 

@@ -1,5 +1,6 @@
 -- What a walk over the blocks of a file keeps, and what it answers.
 use Rattle.std.specs.Prelude.{◌≡◌, ℕ, ◌+◌, ◌^◌, ◌<◌, ◌≤◌, List, [], ◌∷◌, length, drop, slice_index, Bool, true, not, ◌&&◌, ◌||◌, ◌==◌, nat_le, Option, Some, None, option_map, Result, Ok, Err, if◌then◌else◌, nat_lt}
+use Rattle.tk_model.specs.Hashes.{mix_of}
 use Rattle.tk_model.specs.declared.record.ShardOf.{ShardOf}
 use Rattle.tk_model.specs.declared.error.OpenError.{OpenError}
 use Rattle.tk_model.specs.declared.error.OpenError.TheVariants as errors
@@ -11,17 +12,17 @@ use Rattle.tk_block.specs.declared.block.Body.{Body}
 use Rattle.tk_block.specs.declared.head.StaticHead.{StaticHead}
 use Rattle.tk_append.specs.Opening.{Walk, Outcome, FailsAt, Ends, walk, walk_block, walked, may_stand, records_in}
 use Rattle.tk_append.specs.declared.walker.Walker.{Walker}
-use Rattle.tk_append.specs.declared.walker.Begun.{Begun}
-use Rattle.tk_append.specs.declared.walker.Standing.{Standing}
+use Rattle.tk_append.specs.declared.walker.OpenGroup.{OpenGroup}
+use Rattle.tk_append.specs.declared.walker.FoundBlock.{FoundBlock}
 
 -- a head counts only behind the last clear
-abbrev pub living : (cleared head : ℕ) → ℕ
-living cleared head = if nat_lt cleared head then head else 0
+abbrev pub live_head : (cleared head : ℕ) → ℕ
+live_head cleared head = if nat_lt cleared head then head else 0
 
 -- the heads say the newest block of each bucket, and all of them lie in front of the place
 pub record NewestIn (p place : ℕ) (heads : List ℕ) (cleared : ℕ) (blocks : List Placed) : Type 0 where
   pub whole : length heads ≡ 2 ^ p
-  pub newest_each : (b : ℕ) → b < 2 ^ p → living cleared (slice_index heads b) ≡ newest p b 0 blocks
+  pub newest_each : (b : ℕ) → b < 2 ^ p → live_head cleared (slice_index heads b) ≡ newest p b 0 blocks
   pub below : (b : ℕ) → b < 2 ^ p → slice_index heads b < place
   pub behind : cleared < place
 
@@ -30,15 +31,15 @@ abbrev pub least_behind : Option ℕ → ℕ
 least_behind None = 0
 least_behind (Some number) = number + 1
 
-abbrev pub begun_at : Placed → Begun
-begun_at x = record { place = x.place; number = x.body.number }
+abbrev pub as_open : Placed → OpenGroup
+as_open x = record { place = x.place; number = x.body.number }
 
 -- the walker knows what this walk over blocks says
 pub record IsAt (p place : ℕ) (walker : Walker) (w : Walk) : Type 0 where
   pub heads : NewestIn p place walker.heads.items walker.cleared w.blocks
   pub records : walker.records ≡ records_in w.blocks
   pub least : w.least ≡ least_behind walker.before
-  pub begun : walker.begun ≡ option_map begun_at w.begun
+  pub open_group : walker.open_group ≡ option_map as_open w.open_group
 
 -- the block at the front of the bytes may follow the walk
 pub record MayFollow (h : StaticHead) (shard : ShardOf) (w : Walk) (place : ℕ) (bytes : List ℕ) (extent : ℕ) (b : Body) : Type 0 where
@@ -61,14 +62,15 @@ HasNone place bytes =
     (h : StaticHead) (shard : ShardOf) (w : Walk) (go : Walk → ℕ → Outcome) → walk_block h shard w place bytes (head_at bytes place) (body_at (drop 24 bytes) place) go ≡ FailsAt place
 
 -- this block stands there
-pub record HasBlock (place : ℕ) (bytes : List ℕ) (s : Standing) : Type 0 where
+pub record HasBlock (place : ℕ) (bytes : List ℕ) (s : FoundBlock) : Type 0 where
   pub head : head_at bytes place ≡ Some s.extent
   pub body : body_at (drop 24 bytes) place ≡ Some (said s.block)
   pub long : 24 ≤ length bytes
+  pub hash : s.hash ≡ mix_of s.block.key.now
   pub small : IsSmall s.block.key.now s.block.value.now
 
 -- the block may follow, by the number of the last complete group and the group that is not complete
-abbrev pub turn_in : (before : Option ℕ) → Option Begun → Body → Bool
+abbrev pub turn_in : (before : Option ℕ) → Option OpenGroup → Body → Bool
 turn_in before (Some first) b = (b.number == first.number) && not (b.kind == 4)
 turn_in before None b = nat_le (least_behind before) b.number && (not (b.kind == 4) || b.last)
 

@@ -6,7 +6,7 @@ ghost use Rattle.tk_block.specs.Layout.{Placed};
 ghost use Rattle.tk_block.specs.declared.head.StaticHead.{StaticHead as Head};
 ghost use Rattle.tk_append.specs.Opening.{Walk, Ends, records_in, first_fault, closing_fault, end_fault, head_fault, count_fault};
 ghost use Rattle.tk_append.specs.Chains.{HeadsAre};
-ghost use Rattle.tk_append.specs.Walked.{IsAt, NewestIn, living, least_behind};
+ghost use Rattle.tk_append.specs.Walked.{IsAt, NewestIn, live_head, least_behind};
 ghost use Rattle.tk_append.specs.Checked.{Finds, FindsCause, HeadIn, ClosingIn, IsFound, IsClosed};
 
 use crate::hashed::HashedRecords;
@@ -107,10 +107,10 @@ fn check_end(
     requires { 64 + 8 * length walker.old.heads.items ≤ length bytes.now }
     ensures exact { (h : Head) (place : ℕ) (w : Walk) → IsAt h.p place walker.old w → Finds result (end_fault writable h closing.now bytes.now (Ends w)) }
     ensures heads { (p place : ℕ) (w : Walk) → IsAt p place walker.old w → OnOk result (HeadsAre p walker.new.heads.items w.blocks) }
-    ensures whole { (p place : ℕ) (w : Walk) → IsAt p place walker.old w → OnOk result (w.begun ≡ None) }
+    ensures whole { (p place : ℕ) (w : Walk) → IsAt p place walker.old w → OnOk result (w.open_group ≡ None) }
     ensures records { walker.new.records ≡ walker.old.records }
 {
-    if let Some(first) = walker.begun {
+    if let Some(first) = walker.open_group {
         return Err(OpenError::BrokenAt(first.place));
     }
     walker.settle();

@@ -1,9 +1,10 @@
 ghost use Rattle.std.specs.Prelude.{◌≡◌, ◌≤◌, ◌<◌, ◌^◌, ◌+◌, ◌-◌, ℕ, List, length, take, drop, replicate, IfOk, OnOk, Some, MatchOption, MatchResult, nat_le, ◌&&◌, ◌==◌};
 ghost use Rattle.std.specs.Str.{bytes_eq};
+ghost use Rattle.tk_model.specs.Hashes.{mix_of};
 ghost use Rattle.tk_block.specs.Blocks.{IsSmall, body_at, said, extent_of, room_of};
 ghost use Rattle.tk_block.specs.Layout.{link_of, Placed};
 ghost use Rattle.tk_append.specs.Opening.{Walk, change_in, is_home, is_in_turn, is_padded, may_stand, walked};
-ghost use Rattle.tk_append.specs.Walked.{IsAt, MayFollow, Fails, NewestIn, HasNone, HasBlock, turn_in, living};
+ghost use Rattle.tk_append.specs.Walked.{IsAt, MayFollow, Fails, NewestIn, HasNone, HasBlock, turn_in, live_head};
 
 use crate::hashed::HashedRecords;
 use std::alloc::Global;
@@ -12,7 +13,7 @@ use tk_model::{Bytes, Change, NoMemory, OpenError, Pair, ShardOf, bucket, mix, s
 
 /// The first block of a group that is not complete.
 #[derive(Clone, Copy, Debug, PartialEq, Eq)]
-pub(crate) struct Begun {
+pub(crate) struct OpenGroup {
     pub place: u64,
     pub number: u64,
 }
@@ -26,25 +27,26 @@ pub(crate) struct Walker {
     pub records: HashedRecords,
     /// The number of the last complete group.
     pub before: Option<u64>,
-    pub begun: Option<Begun>,
+    pub open_group: Option<OpenGroup>,
 }
 
-/// A block with its extent.
+/// A block with its extent and the mixed hash of its key.
 #[derive(Clone, Copy)]
-pub(crate) struct Standing<'a> {
+pub(crate) struct FoundBlock<'a> {
     pub extent: u64,
+    pub hash: u64,
     pub block: Block<'a>,
 }
 
 /// A head, where it stands behind the last clear.
-fn living(cleared: u64, head: u64) -> u64
-    ensures { result ≡ living cleared head }
+fn live_head(cleared: u64, head: u64) -> u64
+    ensures { result ≡ live_head cleared head }
 {
     if cleared < head { head } else { 0 }
 }
 
 /// The block at the front of bytes that lie at a place.
-fn block_at(bytes: &[u8], place: u64) -> Option<Standing<'_>>
+fn block_at(bytes: &[u8], place: u64) -> Option<FoundBlock<'_>>
     ensures { MatchOption result (HasNone place bytes.now) (HasBlock place bytes.now) }
 {
     if bytes.len() < 24 {
@@ -52,7 +54,11 @@ fn block_at(bytes: &[u8], place: u64) -> Option<Standing<'_>>
     }
     let extent = read_head(bytes, place)?;
     let block = body_at(&bytes[24..], place)?;
-    Some(Standing { extent, block })
+    Some(FoundBlock {
+        extent,
+        hash: mix(block.key),
+        block,
+    })
 }
 
 /// The bytes behind the body are zero.
@@ -78,18 +84,19 @@ fn is_well_laid(bytes: &[u8], extent: u64, block: Block<'_>) -> bool
 }
 
 /// The key belongs to this file of a set.
-fn is_home(head: &StaticHead, shard_of: ShardOf, block: Block<'_>) -> bool
-    requires { shard_of.index < shard_of.of }
-    ensures { result ≡ is_home head.now shard_of (said block.entry) }
+fn is_home(head: &StaticHead, shard_of: ShardOf, found: &FoundBlock<'_>) -> bool
+    requires shard { shard_of.index < shard_of.of }
+    requires hash { found.now.hash ≡ mix_of found.now.block.key.now }
+    ensures { result ≡ is_home head.now shard_of (said found.now.block) }
 {
-    head.kind != 1 || block.kind == 4 || shard(mix(block.key), shard_of.of) == shard_of.index
+    head.kind != 1 || found.block.kind == 4 || shard(found.hash, shard_of.of) == shard_of.index
 }
 
 /// The block may follow those before it in its group, or begin a group.
-fn is_in_turn(before: Option<u64>, begun: Option<Begun>, block: Block<'_>) -> bool
-    ensures { result ≡ turn_in before begun (said block.entry) }
+fn is_in_turn(before: Option<u64>, open_group: Option<OpenGroup>, block: Block<'_>) -> bool
+    ensures { result ≡ turn_in before open_group (said block.entry) }
 {
-    match begun {
+    match open_group {
         Some(first) => block.number == first.number && block.kind != 4,
         None => before.is_none_or(|number| number < block.number)
             && (block.kind != 4 || block.last),
@@ -113,12 +120,13 @@ fn change_of(alloc: Global, block: Block<'_>) -> Result<Change, NoMemory>
 
 impl Walker {
     ghost use Rattle.std.specs.Prelude.{◌≡◌, ◌≤◌, ◌<◌, ◌^◌, ◌+◌, ℕ, List, [], ◌++◌, ◌∷◌, length, Option, option_map, if◌then◌else◌, IfOk, OnOk, IfErr};
+    ghost use Rattle.tk_model.specs.Hashes.{mix_of};
     ghost use Rattle.tk_block.specs.Text.{base_of};
     ghost use Rattle.tk_block.specs.Blocks.{IsSmall, said};
     ghost use Rattle.tk_block.specs.Layout.{Placed, link_of};
     ghost use Rattle.tk_append.specs.Chains.{HeadsAre};
-    ghost use Rattle.tk_append.specs.Opening.{Walk, begin, may_stand, walked, begun_by};
-    ghost use Rattle.tk_append.specs.Walked.{IsAt, MayFollow, Fails, HasBlock, NewestIn, IsOfKind, Passed, WalkedAll, WalkFails, least_behind, begun_at};
+    ghost use Rattle.tk_append.specs.Opening.{Walk, begin, may_stand, walked, opened_by};
+    ghost use Rattle.tk_append.specs.Walked.{IsAt, MayFollow, Fails, HasBlock, NewestIn, IsOfKind, Passed, WalkedAll, WalkFails, least_behind, as_open};
 
     /// Nothing is known yet.
     pub fn new(alloc: Global, p: u8) -> Result<Walker, NoMemory>
@@ -133,20 +141,21 @@ impl Walker {
             cleared: 0,
             records,
             before: None,
-            begun: None,
+            open_group: None,
         })
     }
 
-    /// The link that a block with this body has here.
-    fn link(&self, p: u8, block: Block<'_>) -> u64
+    /// The link that this block has here.
+    fn link(&self, p: u8, found: &FoundBlock<'_>) -> u64
         requires p { p ≤ 24 }
         requires heads { length self.now.heads.items ≡ 2 ^ p }
-        ensures { (place : ℕ) (w : Walk) → IsAt p place self.now w → result ≡ link_of p w.blocks (said block.entry) }
+        requires hash { found.now.hash ≡ mix_of found.now.block.key.now }
+        ensures { (place : ℕ) (w : Walk) → IsAt p place self.now w → result ≡ link_of p w.blocks (said found.now.block) }
     {
-        if block.kind == 4 {
+        if found.block.kind == 4 {
             return 0;
         }
-        living(self.cleared, self.heads[bucket(mix(block.key), p) as usize])
+        live_head(self.cleared, self.heads[bucket(found.hash, p) as usize])
     }
 
     /// The block may stand behind those so far.
@@ -155,16 +164,17 @@ impl Walker {
         head: &StaticHead,
         shard: ShardOf,
         bytes: &[u8],
-        found: &Standing<'_>,
+        found: &FoundBlock<'_>,
     ) -> bool
         requires shard { shard.index < shard.of }
         requires small { IsSmall found.now.block.key.now found.now.block.value.now }
+        requires hash { found.now.hash ≡ mix_of found.now.block.key.now }
         ensures { (place : ℕ) (w : Walk) → IsAt head.now.p place self.now w → result ≡ may_stand head.now shard w bytes.now found.now.extent (said found.now.block) }
     {
         is_well_laid(bytes, found.extent, found.block)
             && found.block.kind != 3
-            && is_in_turn(self.before, self.begun, found.block)
-            && is_home(head, shard, found.block)
+            && is_in_turn(self.before, self.open_group, found.block)
+            && is_home(head, shard, found)
     }
 
     /// The block at the front of bytes that lie at a place, where it may stand behind those so far.
@@ -174,7 +184,7 @@ impl Walker {
         shard: ShardOf,
         place: u64,
         bytes: &'a [u8],
-    ) -> Result<Standing<'a>, OpenError>
+    ) -> Result<FoundBlock<'a>, OpenError>
         requires p { head.now.p ≤ 24 }
         requires heads { length self.now.heads.items ≡ 2 ^ head.now.p }
         requires shard { shard.index < shard.of }
@@ -189,42 +199,43 @@ impl Walker {
         if !self.may_stand(head, shard, bytes, &found) {
             return Err(OpenError::BrokenAt(place));
         }
-        if u64_at(bytes, 16) != self.link(head.p, found.block) {
+        if u64_at(bytes, 16) != self.link(head.p, &found) {
             return Err(OpenError::BrokenAt(place + 16));
         }
         Ok(found)
     }
 
     /// The block is the newest of its bucket, or all buckets are empty.
-    fn turn_heads(&mut self, p: u8, place: u64, block: Block<'_>)
+    fn turn_heads(&mut self, p: u8, place: u64, found: &FoundBlock<'_>)
         requires p { p ≤ 24 }
         requires heads { length self.old.heads.items ≡ 2 ^ p }
-        ensures heads { (blocks : List Placed) → NewestIn p place self.old.heads.items self.old.cleared blocks → IsOfKind (said block.entry)
-            → (next : ℕ) → place < next → NewestIn p next self.new.heads.items self.new.cleared (blocks ++ record { place = place; body = said block.entry } ∷ []) }
+        requires hash { found.now.hash ≡ mix_of found.now.block.key.now }
+        ensures heads { (blocks : List Placed) → NewestIn p place self.old.heads.items self.old.cleared blocks → IsOfKind (said found.now.block)
+            → (next : ℕ) → place < next → NewestIn p next self.new.heads.items self.new.cleared (blocks ++ record { place = place; body = said found.now.block } ∷ []) }
         ensures records { self.new.records ≡ self.old.records }
         ensures before { self.new.before ≡ self.old.before }
-        ensures begun { self.new.begun ≡ self.old.begun }
+        ensures open_group { self.new.open_group ≡ self.old.open_group }
     {
-        if block.kind == 4 {
+        if found.block.kind == 4 {
             self.cleared = place;
         } else {
-            self.heads[bucket(mix(block.key), p) as usize] = place;
+            self.heads[bucket(found.hash, p) as usize] = place;
         }
     }
 
     /// The block ends its group, or goes on with one.
     fn turn_group(&mut self, place: u64, block: Block<'_>)
         ensures before { (least : ℕ) → least ≡ least_behind self.old.before → (if block.entry.last then block.entry.number + 1 else least) ≡ least_behind self.new.before }
-        ensures begun { (first : Option Placed) → self.old.begun ≡ option_map begun_at first → self.new.begun ≡ option_map begun_at (begun_by first (record { place = place; body = said block.entry })) }
+        ensures open_group { (first : Option Placed) → self.old.open_group ≡ option_map as_open first → self.new.open_group ≡ option_map as_open (opened_by first (record { place = place; body = said block.entry })) }
         ensures heads { self.new.heads.items ≡ self.old.heads.items }
         ensures cleared { self.new.cleared ≡ self.old.cleared }
         ensures records { self.new.records ≡ self.old.records }
     {
         if block.last {
             self.before = Some(block.number);
-            self.begun = None;
-        } else if self.begun.is_none() {
-            self.begun = Some(Begun {
+            self.open_group = None;
+        } else if self.open_group.is_none() {
+            self.open_group = Some(OpenGroup {
                 place,
                 number: block.number,
             });
@@ -232,15 +243,22 @@ impl Walker {
     }
 
     /// Goes on behind a block that may stand here.
-    fn pass(&mut self, alloc: Global, p: u8, place: u64, block: Block<'_>) -> Result<(), NoMemory>
+    fn pass(
+        &mut self,
+        alloc: Global,
+        p: u8,
+        place: u64,
+        found: &FoundBlock<'_>,
+    ) -> Result<(), NoMemory>
         requires p { p ≤ 24 }
         requires heads { length self.old.heads.items ≡ 2 ^ p }
-        ensures walked { (w : Walk) (next : ℕ) → IsAt p place self.old w → IsOfKind (said block.entry) → place < next
-            → OnOk result (IsAt p next self.new (walked w (record { place = place; body = said block.entry }))) }
+        requires hash { found.now.hash ≡ mix_of found.now.block.key.now }
+        ensures walked { (w : Walk) (next : ℕ) → IsAt p place self.old w → IsOfKind (said found.now.block) → place < next
+            → OnOk result (IsAt p next self.new (walked w (record { place = place; body = said found.now.block }))) }
     {
-        self.records.apply(alloc, change_of(alloc, block)?)?;
-        self.turn_heads(p, place, block);
-        self.turn_group(place, block);
+        self.records.apply(alloc, change_of(alloc, found.block)?)?;
+        self.turn_heads(p, place, found);
+        self.turn_group(place, found.block);
         Ok(())
     }
 
@@ -261,7 +279,7 @@ impl Walker {
         ensures fails { (w : Walk) → IsAt head.now.p place self.old w → IfErr result (Fails head.now shard w place bytes.now) }
     {
         let found = self.judge(head, shard, place, bytes)?;
-        self.pass(alloc, head.p, place, found.block)?;
+        self.pass(alloc, head.p, place, &found)?;
         Ok(found.extent)
     }
 
@@ -293,10 +311,10 @@ impl Walker {
         ensures same { length self.new.heads.items ≡ length self.old.heads.items }
         ensures records { self.new.records ≡ self.old.records }
         ensures before { self.new.before ≡ self.old.before }
-        ensures begun { self.new.begun ≡ self.old.begun }
+        ensures open_group { self.new.open_group ≡ self.old.open_group }
     {
         for bucket in 0..self.heads.len() {
-            self.heads[bucket] = living(self.cleared, self.heads[bucket]);
+            self.heads[bucket] = live_head(self.cleared, self.heads[bucket]);
         }
     }
 }

@@ -13,5 +13,6 @@ returns c =
       head = sym c.in_ok-extent.ensures.value;
       body = behind_link c.args.place c.args.bytes.now _ (sym c.in_ok-block.ensures.value);
       long = omega (arith, c.if-bytes-lt24.false);
+      hash = c.mix.ensures;
       small = record { key_fits = fits.1; value_fits = value_small (said c.in_ok-block.block) fits.0 };
     }

@@ -8,5 +8,5 @@ invariant-loop-bucket l = record {
   cleared : l.self.cleared ≡ l.fn.self.cleared;
   records : l.self.records ≡ l.fn.self.records;
   before : l.self.before ≡ l.fn.self.before;
-  begun : l.self.begun ≡ l.fn.self.begun;
+  open_group : l.self.open_group ≡ l.fn.self.open_group;
 }
