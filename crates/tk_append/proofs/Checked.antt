@@ -1,5 +1,5 @@
 -- What fails first in a file, step by step.
-use Rattle.std.proofs.Common.{◌≡◌, ◌≢◌, ℕ, zero, suc, ◌+◌, ◌*◌, ◌-◌, ◌<◌, ◌≤◌, ◌^◌, Bool, true, false, cond, eqb, List, [], ◌∷◌, ◌++◌, length, get_or, take, drop, refl, sym, ◌∙◌, ap, subst, arith}
+use Rattle.std.proofs.Common.{◌≡◌, ◌≢◌, ℕ, suc, ◌+◌, ◌*◌, ◌-◌, ◌<◌, ◌≤◌, ◌^◌, Bool, true, false, cond, List, length, get_or, take, drop, refl, sym, ◌∙◌, ap, subst, arith}
 use Rattle.std.specs.Result.{IsErrAnd}
 use Rattle.std.specs.Prelude.{OnOk, option_map, Result, Ok, Err, Option, Some, None, ◌==◌, ◌&&◌, nat_le}
 use Rattle.std.specs.List.{list_any}
@@ -11,7 +11,7 @@ use Rattle.tk_model.specs.declared.error.OpenError.{OpenError}
 use Rattle.tk_model.specs.declared.error.OpenError.TheVariants.{NotADatabase, BrokenAt}
 use Rattle.tk_block.specs.Number.{u64_in}
 use Rattle.tk_block.specs.Text.{static_at, closing_at, base_of, is_static}
-use Rattle.tk_block.specs.Layout.{Placed, newest}
+use Rattle.tk_block.specs.Layout.{Placed}
 use Rattle.tk_block.specs.declared.head.StaticHead.{StaticHead}
 use Rattle.tk_block.specs.declared.closing.Closing.{Closing}
 use Rattle.tk_append.specs.Chains.{HeadsAre}

@@ -1,14 +1,14 @@
 -- A file in which nothing fails is the closed file of its groups.
-use Rattle.std.proofs.Common.{◌≡◌, ℕ, zero, suc, ◌+◌, ◌*◌, ◌-◌, ◌<◌, ◌≤◌, ◌^◌, Bool, true, false, cond, List, [], ◌∷◌, ◌++◌, length, get_or, take, drop, refl, sym, ◌∙◌, ap, subst, arith, append_assoc, inl, inr}
-use Rattle.std.specs.Prelude.{Option, Some, None, ◌==◌, ◌&&◌, ◌||◌, not, nat_le, map}
+use Rattle.std.proofs.Common.{◌≡◌, ℕ, zero, suc, ◌+◌, ◌*◌, ◌<◌, ◌≤◌, ◌^◌, Bool, true, false, cond, List, [], ◌∷◌, ◌++◌, length, get_or, take, drop, refl, sym, ◌∙◌, ap, subst, arith, append_assoc, inl, inr}
+use Rattle.std.specs.Prelude.{Option, Some, None, ◌==◌, ◌||◌, not, nat_le, map}
 use Rattle.std.specs.List.{list_any}
 use Rattle.std.specs.Int.{w64, to_be_bytes, from_be_bytes}
 use Rattle.std.proofs.lemmas.Bool.{eqb-true, leb-true, cases_eq}
 use Rattle.std.proofs.lemmas.Nat.{be_bytes_8}
-use Rattle.std.proofs.lemmas.List.{append-nil, take-append-drop, get_or-drop, get_or-take, length-drop, length-take, length-append, drop-drop}
+use Rattle.std.proofs.lemmas.List.{append-nil, take-append-drop, get_or-drop, length-drop, length-take, drop-drop}
 use Rattle.std.proofs.Math.Seq.{take-add}
 use Rattle.tk_model.proofs.NetChanges.{after_append}
-use Rattle.tk_model.specs.Records.{after, after_one, replay}
+use Rattle.tk_model.specs.Records.{after, replay}
 use Rattle.tk_model.specs.declared.record.Order.TheVariants.{Hash}
 use Rattle.tk_model.specs.declared.record.Pair.{Pair}
 use Rattle.tk_model.specs.declared.record.Group.{Group}
@@ -20,21 +20,21 @@ use Rattle.tk_block.specs.declared.block.Body.{Body}
 use Rattle.tk_block.specs.declared.head.StaticHead.{StaticHead}
 use Rattle.tk_block.specs.declared.closing.Closing.{Closing}
 use Rattle.tk_block.specs.Number.{u64_in}
-use Rattle.tk_block.specs.Text.{static_at, static_text, closing_at, closing_text, base_of, is_static}
+use Rattle.tk_block.specs.Text.{static_at, static_text, closing_at, closing_text, base_of}
 use Rattle.tk_block.specs.Blocks.{body_of, extent_of, group_bodies, is_nil}
 use Rattle.tk_block.specs.Layout.{Placed, newest, laid, end_of, texts, links_of, bodies_of, heads_below, heads_text, file_text}
 use Rattle.tk_block.proofs.Bodies.{two_true, joined_front}
 use Rattle.tk_block.proofs.Grammar.{static_found, closing_found}
-use Rattle.tk_block.proofs.Layouts.{laid-append, end_of-append}
+use Rattle.tk_block.proofs.Layouts.{laid-append}
 use Rattle.tk_append.specs.Chains.{HeadsAre}
-use Rattle.tk_append.specs.Log.{AreGroups, IsRead, AllIn, AllHome, blocks_of, closed_text}
-use Rattle.tk_append.specs.OpeningLaws.{MayOpen, IsClosedFile, OpensOnlyClosed}
+use Rattle.tk_append.specs.Log.{AreGroups, AllIn, AllHome, blocks_of, closed_text}
+use Rattle.tk_append.specs.OpeningLaws.{IsClosedFile, OpensOnlyClosed}
 use Rattle.tk_model.specs.Entries.{is_in_shard, holds_key}
 use Rattle.tk_append.specs.Opening.{Walk, Outcome, FailsAt, Ends, walk, is_home, change_in, records_in, broken_unless, broken_at, place_in, head_fault, count_fault, end_fault, closing_fault, static_fault, first_fault}
 use Rattle.tk_append.specs.Checked.{IsFound, IsClosed}
 use Rattle.tk_append.specs.declared.check.Found.{Found}
-use Rattle.tk_append.proofs.Groupings.{Parted, IsPart, part_bodies, groups_upto}
-use Rattle.tk_append.proofs.Walks.{AreBytes, Grouped, AllAtHome, file_grouped}
+use Rattle.tk_append.proofs.Groupings.{IsPart, part_bodies, groups_upto}
+use Rattle.tk_append.proofs.Walks.{AreBytes, AllAtHome, file_grouped}
 
 unless : (t : Bool) (place : ℕ) (next : Option OpenError) → broken_unless t place next ≡ None → (t ≡ true) × (next ≡ None)
 unless true place next is = (refl, is)

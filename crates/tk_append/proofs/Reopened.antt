@@ -1,14 +1,12 @@
 -- Nothing fails in the closed file of groups.
-use Rattle.std.proofs.Common.{◌≡◌, ◌≢◌, ℕ, zero, suc, ◌+◌, ◌*◌, ◌-◌, ◌<◌, ◌≤◌, ◌^◌, Bool, true, false, cond, List, [], ◌∷◌, ◌++◌, length, get_or, take, drop, refl, sym, ◌∙◌, ap, subst, arith, append_assoc, inl, inr}
-use Rattle.std.specs.Prelude.{Option, Some, None, ◌==◌, ◌&&◌, ◌||◌, not, nat_le, map, replicate}
+use Rattle.std.proofs.Common.{◌≡◌, ◌≢◌, ℕ, zero, suc, ◌+◌, ◌*◌, ◌<◌, ◌≤◌, ◌^◌, Bool, true, false, cond, List, [], ◌∷◌, ◌++◌, length, take, drop, refl, sym, ◌∙◌, ap, subst, arith, append_assoc, inl, inr}
+use Rattle.std.specs.Prelude.{Option, Some, None, ◌==◌, ◌&&◌, ◌||◌, not, nat_le}
 use Rattle.std.specs.List.{list_any}
-use Rattle.std.specs.Str.{bytes_eq}
 use Rattle.std.specs.Int.{w64, to_be_bytes, from_be_bytes}
 use Rattle.std.specs.declared.cmp.Ordering.{Ordering}
 use Rattle.std.specs.declared.cmp.Ordering.TheVariants.{Less, Equal, Greater}
 use Rattle.std.proofs.lemmas.Slice.Eq.{bytes_eq-Decides}
 use Rattle.std.proofs.lemmas.Bool.{eq-eqb, ne_eqb, le-leb, cases_eq}
-use Rattle.std.proofs.lemmas.Bool.Decides.{nat_tests}
 use Rattle.std.proofs.lemmas.Nat.{from_be_bytes-to_be_bytes_8}
 use Rattle.std.proofs.lemmas.List.{append-nil, drop_at, take_at, length-append, drop-drop}
 use Rattle.tk_model.specs.Records.{AllFit, HasNoClear, IsClearAlone, after, after_one, put, put_by, without, replay}
@@ -26,16 +24,16 @@ use Rattle.tk_block.specs.declared.head.StaticHead.{StaticHead}
 use Rattle.tk_block.specs.declared.closing.Closing.{Closing}
 use Rattle.tk_block.specs.Number.{u64_in}
 use Rattle.tk_block.specs.Text.{static_at, static_text, closing_at, closing_text, base_of}
-use Rattle.tk_block.specs.Blocks.{IsSmall, body_of, block_text, extent_of, room_of, group_bodies, is_nil, kind_of, key_of, value_of}
-use Rattle.tk_block.specs.Grammar.{Reads, FitsBody}
+use Rattle.tk_block.specs.Blocks.{IsSmall, body_of, block_text, extent_of, group_bodies, kind_of, key_of, value_of}
+use Rattle.tk_block.specs.Grammar.{FitsBody}
 use Rattle.tk_block.specs.Layout.{Placed, newest, renewed, is_in, bucket_in, link_of, laid, end_of, texts, links_of, bodies_of, heads_below, heads_text, file_text}
 use Rattle.tk_block.proofs.Grammar.{statics, closings, length-static_text, length-closing_text}
 use Rattle.tk_block.proofs.BlockReads.{block_head, block_body, block_link, block_padding, block_rest, change_fits}
 use Rattle.tk_block.proofs.Lengths.{length-block_text, length-heads_below, length-file_text}
 use Rattle.tk_block.proofs.Layouts.{newest-append, length-laid}
 use Rattle.tk_append.specs.Log.{AreGroups, AllIn, AllHome, blocks_of, closed_text}
-use Rattle.tk_append.specs.Opening.{Walk, Outcome, Ends, begin, walk, walk_on, walked, may_stand, is_in_turn, is_home, is_padded, opened_by, change_in, records_in, broken_unless, broken_at, place_in, head_fault, count_fault, end_fault, closing_fault, static_fault, first_fault}
-use Rattle.tk_append.specs.OpeningLaws.{MayOpen, OpensClosed}
+use Rattle.tk_append.specs.Opening.{Walk, Outcome, Ends, begin, walk, walk_on, walked, may_stand, is_in_turn, is_home, is_padded, opened_by, records_in, broken_unless, broken_at, place_in, head_fault, count_fault, end_fault, closing_fault, static_fault, first_fault}
+use Rattle.tk_append.specs.OpeningLaws.{OpensClosed}
 use Rattle.tk_append.specs.Walked.{MayFollow}
 use Rattle.tk_append.proofs.Layouts.{end_of-least}
 use Rattle.tk_append.proofs.WalkerSteps.{walk_next, goes_on}
@@ -106,9 +104,13 @@ module _ (next : ℕ) (h : StaticHead) (shard : ShardOf) where
       (change_fits n c true (small_one c fit) small, no_void c, turn_next least n c true x is (no_clear_head c [] none).0, home_of h shard n c true (λ e. (home e).0), more)
   fit_rest least n place x c (d ∷ cs) rest is small fit none home more =
       let f = fit_head c (d ∷ cs) fit in
-      let k = no_clear_head c (d ∷ cs) none in
-      (change_fits n c false (small_one c f.0) small, no_void c, turn_next least n c false x is k.0, home_of h shard n c false (λ e. (home e).0),
-      fit_rest least n (place + extent_of (body_of n c false)) x d cs rest is small f.1 k.1 (λ e. (home e).1) more)
+      let k = no_clear_head c (d ∷ cs) none in (
+        change_fits n c false (small_one c f.0) small,
+        no_void c,
+        turn_next least n c false x is k.0,
+        home_of h shard n c false (λ e. (home e).0),
+        fit_rest least n (place + extent_of (body_of n c false)) x d cs rest is small f.1 k.1 (λ e. (home e).1) more,
+      )
 
   -- a group, then other bodies
   fit_group : (least n place : ℕ) (c : Change) (cs : List Change) (rest : List Body) → least ≤ n → n < 2 ^ 64 → AllFit (c ∷ cs) → IsClearAlone (c ∷ cs) → (h.kind ≡ 1 → AllIn shard (c ∷ cs))
@@ -117,9 +119,13 @@ module _ (next : ℕ) (h : StaticHead) (shard : ShardOf) where
       (change_fits n c true (small_one c fit) small, no_void c, turn_first least n c true most (or_true (not (kind_of c == 4))), home_of h shard n c true (λ e. (home e).0), more)
   fit_group least n place c (d ∷ cs) rest most small fit one home more =
       let f = fit_head c (d ∷ cs) fit in
-      let k = no_clear_head c (d ∷ cs) (clear_alone c d cs one) in
-      (change_fits n c false (small_one c f.0) small, no_void c, turn_first least n c false most (left_true _ k.0), home_of h shard n c false (λ e. (home e).0),
-      fit_rest least n (place + extent_of (body_of n c false)) (record { place = place; body = body_of n c false }) d cs rest refl small f.1 k.1 (λ e. (home e).1) more)
+      let k = no_clear_head c (d ∷ cs) (clear_alone c d cs one) in (
+        change_fits n c false (small_one c f.0) small,
+        no_void c,
+        turn_first least n c false most (left_true _ k.0),
+        home_of h shard n c false (λ e. (home e).0),
+        fit_rest least n (place + extent_of (body_of n c false)) (record { place = place; body = body_of n c false }) d cs rest refl small f.1 k.1 (λ e. (home e).1) more,
+      )
 
   fit_some : (least n place : ℕ) (cs : List Change) (rest : List Body) → cs ≢ [] → least ≤ n → n < 2 ^ 64 → AllFit cs → IsClearAlone cs → (h.kind ≡ 1 → AllIn shard cs)
       → Fit next h shard (n + 1) None (end_of place (group_bodies n cs)) rest → Fit next h shard least None place (group_bodies n cs ++ rest)

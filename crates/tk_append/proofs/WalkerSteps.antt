@@ -1,7 +1,7 @@
 -- A walk over blocks, block by block.
-use Rattle.std.proofs.Common.{◌≡◌, ℕ, zero, suc, ◌+◌, ◌-◌, ◌<◌, ◌≤◌, ◌^◌, Bool, true, false, cond, List, [], ◌∷◌, ◌++◌, length, get_or, take, drop, refl, sym, ◌∙◌, ap, subst, arith}
+use Rattle.std.proofs.Common.{◌≡◌, ℕ, zero, suc, ◌+◌, ◌-◌, ◌<◌, ◌≤◌, true, false, cond, List, [], ◌∷◌, ◌++◌, length, take, drop, refl, sym, ◌∙◌, ap, subst, arith}
 use Rattle.std.specs.Result.{IsErrAnd}
-use Rattle.std.specs.Prelude.{Result, Ok, Err, IfErr, Option, Some, None, option_map, map, ◌==◌, ◌&&◌, ◌||◌, not, nat_le}
+use Rattle.std.specs.Prelude.{Result, Ok, Err, IfErr, Option, Some, None, option_map, map, ◌==◌, not, nat_le}
 use Rattle.std.proofs.lemmas.List.{drop_all, take_all, length-drop, drop-drop}
 use Rattle.std.proofs.lemmas.Bool.{eq-eqb, eqb-true, leb-true}
 use Rattle.tk_model.specs.declared.error.OpenError.TheVariants.{NotADatabase, BrokenAt, Fault, NoMemory}
@@ -21,8 +21,7 @@ use Rattle.tk_block.specs.declared.head.StaticHead.{StaticHead}
 use Rattle.tk_block.specs.Text.{head_at, base_of}
 use Rattle.tk_block.proofs.Bodies.{two_true}
 use Rattle.tk_block.proofs.BodyGrammar.{bodies}
-use Rattle.tk_block.specs.Blocks.{said, extent_of, body_at, body_text, body_in, check_in, is_body}
-use Rattle.tk_block.specs.Grammar.{Reads, FitsBody}
+use Rattle.tk_block.specs.Blocks.{said, extent_of, body_at, check_in, is_body}
 use Rattle.tk_append.specs.Opening.{Walk, Outcome, FailsAt, Ends, begin, walk, walk_on, walk_block, walked, may_stand, is_padded, is_in_turn, is_home, change_in, records_in, opened_by}
 use Rattle.tk_append.specs.Walked.{HasNone, HasBlock, MayFollow, Fails, IsAt, NewestIn, IsOfKind, Passed, WalkedAll, WalkFails, least_behind, as_open}
 

@@ -1,10 +1,10 @@
 -- A file whose walk ends is the file of some groups.
-use Rattle.std.proofs.Common.{◌≡◌, ℕ, zero, suc, lit<, ◌+◌, ◌*◌, ◌-◌, ◌<◌, ◌≤◌, ◌^◌, Bool, true, false, cond, List, [], ◌∷◌, ◌++◌, length, get_or, take, drop, refl, sym, ◌∙◌, ap, subst, arith, append_assoc}
+use Rattle.std.proofs.Common.{◌≡◌, ℕ, zero, suc, ◌+◌, ◌-◌, ◌<◌, ◌≤◌, Bool, true, false, cond, List, [], ◌∷◌, ◌++◌, length, get_or, take, drop, refl, sym, ◌∙◌, ap, subst, arith, append_assoc}
 use Rattle.std.specs.Prelude.{Option, Some, None, replicate, ◌==◌}
 use Rattle.std.specs.Str.{bytes_eq}
 use Rattle.std.proofs.lemmas.Slice.Eq.{bytes_eq-Decides}
 use Rattle.std.proofs.lemmas.Bool.{eqb-true}
-use Rattle.std.proofs.lemmas.List.{append-nil, take-append-drop, get_or-drop, length-drop, length-take, length-append}
+use Rattle.std.proofs.lemmas.List.{append-nil, take-append-drop, get_or-drop, length-drop}
 use Rattle.tk_model.specs.declared.record.ShardOf.{ShardOf}
 use Rattle.tk_block.specs.declared.block.Body.{Body}
 use Rattle.tk_block.specs.declared.head.StaticHead.{StaticHead}
@@ -16,7 +16,7 @@ use Rattle.tk_block.proofs.BodyGrammar.{bodies}
 use Rattle.tk_block.proofs.BlockReads.{block_spelled}
 use Rattle.tk_block.proofs.Layouts.{laid-append, end_of-append, links_of-append, texts-append-both, length-links_of}
 use Rattle.tk_append.specs.Opening.{Walk, Outcome, FailsAt, Ends, begin, walk, walk_on, walk_block, walked, may_stand, is_home}
-use Rattle.tk_append.specs.Walked.{MayFollow, IsOfKind}
+use Rattle.tk_append.specs.Walked.{MayFollow}
 use Rattle.tk_append.proofs.WalkerSteps.{stood, of_kind}
 use Rattle.tk_append.proofs.Groupings.{Parted, parted_more}
 

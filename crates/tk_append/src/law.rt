@@ -5,5 +5,4 @@ ghost use Rattle.tk_append.specs.OpeningLaws.{OpensClosed, OpensOnlyClosed};
 pub fn closed_files_open()
     ensures closed { OpensClosed }
     ensures only { OpensOnlyClosed }
-{
-}
+{}

@@ -1,5 +1,5 @@
 use Rattle.std.proofs.Common.{refl, sym, ◌∙◌, subst, arith}
-use Rattle.tk_append.specs.Opening.{first_fault, Ends}
+use Rattle.tk_append.specs.Opening.{Ends}
 use Rattle.tk_append.specs.Checked.{FindsCause}
 use Rattle.tk_append.proofs.Checked.{finds_err, to_the_end}
 use Rattle.tk_append.proofs.ClosedFiles.{closed_is}

@@ -1,4 +1,4 @@
-use Rattle.std.proofs.Common.{◌≡◌, length, sym, ◌∙◌, ap, subst, arith}
+use Rattle.std.proofs.Common.{length, sym, ◌∙◌, ap, subst, arith}
 use Rattle.std.specs.Prelude.{None, Some}
 use Rattle.tk_append.specs.Chains.{HeadsAre}
 use Rattle.tk_append.specs.Walked.{least_behind}

@@ -1,6 +1,5 @@
-use Rattle.std.proofs.Common.{◌≡◌, length, ◌<◌, sym, subst, ◌∙◌, arith}
+use Rattle.std.proofs.Common.{arith}
 use Rattle.std.specs.Prelude.{Some, None}
-use Rattle.tk_block.specs.Text.{base_of}
 use Rattle.tk_append.proofs.Checked.{behind_static, no_closing, other_size, small_size, closing_found}
 use Rattle.tk_append.proofs.check.closing_in.Goals.{then-closing-bytes-via-then-closing-bytes, then-closing-bytes-via-else-closing-bytes+then-closing-base_of}
 use Rattle.tk_append.proofs.check.closing_in.Goals as goal

@@ -1,7 +1,5 @@
-use Rattle.std.proofs.Common.{◌≡◌, true, false, sym, ◌∙◌, ap}
+use Rattle.std.proofs.Common.{sym, ◌∙◌}
 use Rattle.std.proofs.lemmas.Bool.{ne_eqb}
-use Rattle.tk_block.specs.Blocks.{said}
-use Rattle.tk_append.specs.Opening.{may_stand}
 use Rattle.tk_append.proofs.WalkerSteps.{fails_stand, fails_link}
 use Rattle.tk_append.proofs.walker.Walker.judge.Goals as goal
 

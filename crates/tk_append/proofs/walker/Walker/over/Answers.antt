@@ -1,6 +1,5 @@
-use Rattle.std.proofs.Common.{◌≡◌, length, sym, subst, take, drop, ◌-◌}
-use Rattle.tk_append.specs.Walked.{IsAt, WalkFails}
-use Rattle.tk_append.specs.Opening.{begin}
+use Rattle.std.proofs.Common.{sym, subst}
+use Rattle.tk_append.specs.Walked.{WalkFails}
 use Rattle.tk_append.proofs.WalkerSteps.{reached_first, reached_next, reached_fault, handed_on, Reached}
 use Rattle.tk_append.proofs.walker.Walker.over.Goals as goal
 

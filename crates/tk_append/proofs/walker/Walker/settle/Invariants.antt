@@ -1,4 +1,4 @@
-use Rattle.std.proofs.Common.{◌≡◌, length}
+use Rattle.std.proofs.Common.{◌≡◌}
 use Rattle.tk_append.proofs.Checked.{Settled}
 use Rattle.tk_append.proofs.walker.Walker.settle.Given as goal
 

@@ -1,6 +1,6 @@
-use Rattle.std.proofs.Common.{◌≡◌, eqb, true, false, ◌∙◌, ap}
+use Rattle.std.proofs.Common.{◌∙◌, ap}
 use Rattle.std.proofs.lemmas.Bool.{eq-eqb, ne_eqb}
-use Rattle.tk_model.specs.Hashes.{mix_of, bucket_of}
+use Rattle.tk_model.specs.Hashes.{bucket_of}
 use Rattle.tk_block.specs.Blocks.{said}
 use Rattle.tk_append.proofs.NewestHeads.{heads_clear, heads_put}
 use Rattle.tk_append.proofs.walker.Walker.turn_heads.Goals as goal
