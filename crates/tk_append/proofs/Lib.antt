@@ -6,6 +6,7 @@ pub mod Groupings
 pub mod Layouts
 pub mod NewestHeads
 pub mod PiecesSteps
+pub mod Readings
 pub mod Reopened
 pub mod WalkerSteps
 pub mod Walks

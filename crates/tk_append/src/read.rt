@@ -107,7 +107,7 @@ pub fn read_log<D: Disk>(
 ) -> Result<ReadLog<D>, Unopened<D>>
     requires shard { shard.index < shard.of }
     ensures exact { IfSome (D.image disk) (λ f. Tells result (first_fault kinds.now writable shard f)) }
-    ensures found { IfOk result (HasRead (D.image disk) shard) }
+    ensures found { IfOk result (HasRead D.image disk shard) }
     ensures kind { IfOk result (λ r. list_any (λ k. k == (log_head r.log).kind) kinds.now ≡ true) }
     ensures last { IfOk result (λ r. writable ≡ true → r.next ≤ 2 ^ 62) }
     ensures image { IfOk result (λ r. D.image (log_disk r.log) ≡ D.image disk) }
