@@ -34,7 +34,7 @@ use Rattle.tk_append.specs.Opening.{Walk, Outcome, FailsAt, Ends, walk, is_home,
 use Rattle.tk_append.specs.Checked.{IsFound, IsClosed}
 use Rattle.tk_append.specs.declared.check.Found.{Found}
 use Rattle.tk_append.proofs.Groupings.{IsPart, part_bodies, groups_upto}
-use Rattle.tk_append.proofs.Walks.{AreBytes, AllAtHome, file_grouped}
+use Rattle.tk_append.proofs.Walks.{AreBytes, bytes_drop, AllAtHome, file_grouped}
 
 unless : (t : Bool) (place : ℕ) (next : Option OpenError) → broken_unless t place next ≡ None → (t ≡ true) × (next ≡ None)
 unless true place next is = (refl, is)
@@ -113,13 +113,10 @@ take_small (suc n) [] are i = omega arith
 take_small (suc n) (x ∷ xs) are zero = are zero
 take_small (suc n) (x ∷ xs) are (suc i) = take_small n xs (λ k. are (suc k)) i
 
-drop_small : (n : ℕ) (xs : List ℕ) → AreBytes xs → AreBytes (drop n xs)
-drop_small n xs are i = rw (get_or-drop n xs i 0) (are (n + i))
-
 -- the eight bytes of a number
 word_at : (f : List ℕ) (at n : ℕ) → AreBytes f → at + 8 ≤ length f → u64_in f at ≡ n → take 8 (drop at f) ≡ to_be_bytes w64 n
 word_at f at n are fits is =
-    sym (be_bytes_8 (take 8 (drop at f)) n (omega (arith, length-take 8 (drop at f), length-drop at f)) (take_small 8 (drop at f) (drop_small at f are)) (sym is ∙ u64_told f at))
+    sym (be_bytes_8 (take 8 (drop at f)) n (omega (arith, length-take 8 (drop at f), length-drop at f)) (take_small 8 (drop at f) (bytes_drop at f are)) (sym is ∙ u64_told f at))
 
 heads_stand : (p n : ℕ) (blocks : List Placed) (f : List ℕ) → AreBytes f → 64 + 8 * n ≤ length f → ((k : ℕ) → k < n → u64_in f (64 + 8 * k) ≡ newest p k 0 blocks) → take (8 * n) (drop 64 f) ≡ heads_below p n blocks
 heads_stand p zero blocks f are fits each = refl

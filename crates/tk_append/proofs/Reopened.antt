@@ -36,6 +36,7 @@ use Rattle.tk_append.specs.Opening.{Walk, Outcome, Ends, begin, walk, walk_on, w
 use Rattle.tk_append.specs.OpeningLaws.{OpensClosed}
 use Rattle.tk_append.specs.Walked.{MayFollow}
 use Rattle.tk_append.proofs.Layouts.{end_of-least}
+use Rattle.tk_append.proofs.Readings.{file_blocks}
 use Rattle.tk_append.proofs.WalkerSteps.{walk_next, goes_on}
 use Rattle.tk_append.proofs.ClosedFiles.{changes_of, replayed}
 
@@ -288,10 +289,6 @@ file_parts h groups c size =
     let rest = heads_text h.p (blocks_of h groups) ++ texts (blocks_of h groups) (links_of h.p [] (blocks_of h groups)) in
     ap (λ (n : ℕ). (static_text h ++ closing_text (record { size = n; count = c.count; next = c.next })) ++ rest) (sym size) ∙ append_assoc (static_text h) (closing_text c) rest
 
-length-heads : (p : ℕ) (blocks : List Placed) → length (heads_text p blocks) ≡ 8 * 2 ^ p
-unfolding heads_text
-length-heads p blocks = length-heads_below p (2 ^ p) blocks
-
 -- the walk over a file's bytes, told by those from the base on
 walk_of : (h : StaticHead) (shard : ShardOf) (f bytes : List ℕ) (o : Outcome) → drop (base_of h.p) f ≡ bytes → walk_on (length f) h shard begin (base_of h.p) bytes ≡ o → walk h shard f ≡ o
 unfolding walk
@@ -332,9 +329,7 @@ opens_closed kinds writable shard h groups next m =
     let fronted : f ≡ (static_text h ++ closing_text c) ++ (heads ++ rest) = parts ∙ sym (append_assoc (static_text h) (closing_text c) (heads ++ rest)) in
     let long : length f ≡ end_of base bs = length-file_text h groups (length (replay Hash groups [])) next in
     let front_long : length (static_text h ++ closing_text c) ≡ 64 = omega (arith, length-append (static_text h) (closing_text c), length-static_text h, length-closing_text c) in
-    let based : drop base f ≡ rest =
-    ap (λ (l : List ℕ). drop base l) (fronted ∙ sym (append_assoc (static_text h ++ closing_text c) heads rest))
-    ∙ drop_at ((static_text h ++ closing_text c) ++ heads) rest base (omega (arith, length-append (static_text h ++ closing_text c) heads, front_long, length-heads h.p blocks)) in
+    let based : drop base f ≡ rest = file_blocks h groups (length (replay Hash groups [])) next in
     let replays : records_in blocks ≡ replay Hash groups [] = replayed base groups [] in
     let few : length (replay Hash groups []) < 2 ^ 64 =
     omega (arith, m.size, ap length replays, length-after (changes_of blocks) [], length-changes blocks, length-laid base bs, count_upto base bs) in

@@ -23,7 +23,7 @@ use Rattle.tk_append.proofs.Groupings.{Parted, parted_more}
 abbrev pub AreBytes : List ℕ → Type 0
 AreBytes f = (i : ℕ) → get_or f i 0 < 256
 
-bytes_drop : (n : ℕ) (f : List ℕ) → AreBytes f → AreBytes (drop n f)
+pub bytes_drop : (n : ℕ) (f : List ℕ) → AreBytes f → AreBytes (drop n f)
 bytes_drop n f are i = rw (get_or-drop n f i 0) (are (n + i))
 
 -- the keys of these bodies belong to this file of a set
