@@ -5,7 +5,7 @@ use Rattle.std.specs.List.{list_any}
 use Rattle.std.specs.Int.{w64, to_be_bytes, from_be_bytes}
 use Rattle.std.proofs.lemmas.Bool.{eqb-true, leb-true, cases_eq}
 use Rattle.std.proofs.lemmas.Nat.{be_bytes_8}
-use Rattle.std.proofs.lemmas.List.{append-nil, take-append-drop, get_or-drop, length-drop, length-take, drop-drop}
+use Rattle.std.proofs.lemmas.List.{append-nil, take-append-drop, length-drop, length-take, drop-drop}
 use Rattle.std.proofs.Math.Seq.{take-add}
 use Rattle.tk_model.proofs.NetChanges.{after_append}
 use Rattle.tk_model.specs.Records.{after, replay}
