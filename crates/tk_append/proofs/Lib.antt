@@ -1,4 +1,12 @@
 pub mod ChainsSteps
+pub mod Checked
+pub mod ClosedFiles
 pub mod FreshSteps
+pub mod Groupings
 pub mod Layouts
+pub mod NewestHeads
 pub mod PiecesSteps
+pub mod Readings
+pub mod Reopened
+pub mod WalkerSteps
+pub mod Walks

@@ -1,6 +1,10 @@
 pub mod Chains
+pub mod Checked
 pub mod Fresh
 pub mod Log
 pub mod LogParts
 pub mod Opening
+pub mod OpeningLaws
 pub mod Pieces
+pub mod Read
+pub mod Walked

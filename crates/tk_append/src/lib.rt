@@ -3,12 +3,20 @@
 
 mod blocks;
 mod chains;
+mod check;
 mod fresh;
+mod hashed;
+mod law;
 mod log;
 mod pieces;
+mod read;
+mod walker;
 
 pub use fresh::write_fresh;
+pub use hashed::HashedRecords;
+pub use law::closed_files_open;
 pub use log::GroupLog;
+pub use read::{ReadLog, read_log};
 
 #[cfg(test)]
 mod tests;
