@@ -1,0 +1,9 @@
+//! The buckets of a file of blocks, as linked lists.
+#![tactic(auto)]
+
+mod linking;
+mod places;
+mod read;
+
+pub use linking::insert;
+pub use places::{PlaceList, places_of};
