@@ -10,8 +10,8 @@ use Rattle.tk_disk.specs.Disk.{ReadsFrom}
 use Rattle.tk_block.specs.Number.{u64_in}
 use Rattle.tk_block.specs.Text.{base_of}
 use Rattle.tk_block.specs.declared.head.StaticHead.{StaticHead}
-use Rattle.tk_buckets.specs.Chain.{IsWhole, IsApart, IsLinked, extent_in, link_in}
-use Rattle.tk_buckets.proofs.Links.{whole_long}
+use Rattle.tk_buckets.specs.Chain.{IsWhole, IsApart, IsLinked, IsChain, extent_in, link_in, head_cell}
+use Rattle.tk_buckets.proofs.Links.{whole_long, head_before}
 
 read_whole : (f : List ℕ) (at n : ℕ) (into : List ℕ) → ReadsFrom f at into n → length into ≡ 8 → at + 8 ≤ length f → u64_in into 0 ≡ u64_in f at
 unfolding u64_in
@@ -123,3 +123,12 @@ pub taken_one_more : (h : StaticHead) (o : Option (List ℕ)) (first : ℕ) (pla
 taken_one_more h None first places done before now next ne most left = tt
 taken_one_more h (Some f) first places done before now next ne most left = λ linked.
     let l = left linked in omega (arith, most, ap length l.is, length-append done l.rest, some_left h f l.rest next ne l.linked)
+
+-- what is known of the blocks behind the head is known of the bucket
+pub from_head : (h : StaticHead) (o mid last : Option (List ℕ)) (bucket first : ℕ) (places : List ℕ) (Q R : Type 0) → bucket < 2 ^ h.p → mid ≡ o → last ≡ mid
+    → IfSome mid (λ f. head_cell bucket + 8 ≤ length f → first ≡ u64_in f (head_cell bucket)) → (Q → R) → IfSome last (λ f. IsLinked h f first places → Q) → IfSome o (λ f. IsChain h f bucket places → R)
+from_head h None mid last bucket first places Q R below is then_is value so known = tt
+from_head h (Some f) mid last bucket first places Q R below is then_is value so known = λ chain.
+    let head : first ≡ u64_in f (head_cell bucket) =
+    subst (λ (o : Option (List ℕ)). IfSome o (λ f. head_cell bucket + 8 ≤ length f → first ≡ u64_in f (head_cell bucket))) is value (omega (arith, head_before h bucket below, chain.heads)) in
+    so (subst (λ (o : Option (List ℕ)). IfSome o (λ f. IsLinked h f first places → Q)) (then_is ∙ is) known (subst (λ (n : ℕ). IsLinked h f n places) (sym head) chain.linked))
