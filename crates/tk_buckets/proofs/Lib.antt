@@ -1,3 +1,4 @@
 pub mod Follows
 pub mod Links
+pub mod Unlinks
 pub mod Writes

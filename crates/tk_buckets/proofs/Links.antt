@@ -28,6 +28,24 @@ whole_long h f q whole = (extent_fits (extent_in f q) (head_found (drop q f) q (
 abbrev pub Spares : List ℕ → (cell place : ℕ) → Type 0
 Spares f cell place = (cell + 8 ≤ place) ⊎ ((cell ≡ place + 16) ⊎ (place + extent_in f place ≤ cell))
 
+-- the same of each of these blocks
+abbrev pub AllSpared : List ℕ → (cell : ℕ) → List ℕ → Type 0
+AllSpared f cell [] = Unit {0}
+AllSpared f cell (q ∷ qs) = Spares f cell q × AllSpared f cell qs
+
+-- the cell is beside each of these blocks
+abbrev pub IsBeside : List ℕ → (cell : ℕ) → List ℕ → Type 0
+IsBeside f cell [] = Unit {0}
+IsBeside f cell (q ∷ qs) = ((cell + 8 ≤ q) ⊎ (q + extent_in f q ≤ cell)) × IsBeside f cell qs
+
+spared : (f : List ℕ) (cell q : ℕ) → (cell + 8 ≤ q) ⊎ (q + extent_in f q ≤ cell) → Spares f cell q
+spared f cell q (inl before) = inl before
+spared f cell q (inr past) = inr (inr past)
+
+pub all_spared : (f : List ℕ) (cell : ℕ) (qs : List ℕ) → IsBeside f cell qs → AllSpared f cell qs
+all_spared f cell [] beside = tt
+all_spared f cell (q ∷ qs) beside = (spared f cell q beside.0, all_spared f cell qs beside.1)
+
 module _ (h : StaticHead) (cell value : ℕ) (f : List ℕ) (fits : cell + 8 ≤ length f) where
   front_beside : (q e : ℕ) → 48 ≤ e → (cell + 8 ≤ q) ⊎ ((cell ≡ q + 16) ⊎ (q + e ≤ cell)) → (q + 16 ≤ cell) ⊎ (cell + 8 ≤ q)
   front_beside q e long (inl before) = inr before
@@ -71,15 +89,6 @@ module _ (h : StaticHead) (cell value : ℕ) (f : List ℕ) (fits : cell + 8 ≤
         within = omega (arith, whole.within, same, length_put cell value f fits);
       }
 
-  -- the cell is beside each of these blocks
-  abbrev pub IsBeside : List ℕ → Type 0
-  IsBeside [] = Unit {0}
-  IsBeside (q ∷ qs) = ((cell + 8 ≤ q) ⊎ (q + extent_in f q ≤ cell)) × IsBeside qs
-
-  pub spared : (q : ℕ) → (cell + 8 ≤ q) ⊎ (q + extent_in f q ≤ cell) → Spares f cell q
-  spared q (inl before) = inl before
-  spared q (inr past) = inr (inr past)
-
   link_beside : (q e : ℕ) → 48 ≤ e → (cell + 8 ≤ q) ⊎ (q + e ≤ cell) → (q + 16 + 8 ≤ cell) ⊎ (cell + 8 ≤ q + 16)
   link_beside q e long (inl before) = inr (omega (arith, before))
   link_beside q e long (inr past) = inl (omega (arith, past, long))
@@ -88,22 +97,22 @@ module _ (h : StaticHead) (cell value : ℕ) (f : List ℕ) (fits : cell + 8 ≤
   apart_step q r e x e' x' same other (inl before) = inl (omega (arith, before, same))
   apart_step q r e x e' x' same other (inr past) = inr (omega (arith, past, other))
 
-  pub apart_put : (q first : ℕ) (qs : List ℕ) → extent_in (put_at cell (to_be_bytes w64 value) f) q ≡ extent_in f q → IsLinked h f first qs → IsBeside qs
+  pub apart_put : (q first : ℕ) (qs : List ℕ) → extent_in (put_at cell (to_be_bytes w64 value) f) q ≡ extent_in f q → IsLinked h f first qs → AllSpared f cell qs
       → IsApart f q qs → IsApart (put_at cell (to_be_bytes w64 value) f) q qs
-  apart_put q first [] same linked beside apart = tt
-  apart_put q first (r ∷ rs) same linked beside apart =
-      (apart_step q r _ _ _ _ same (extent_put r linked.1 (spared r beside.0)) apart.0, apart_put q (link_in f r) rs same linked.3 beside.1 apart.1)
+  apart_put q first [] same linked spares apart = tt
+  apart_put q first (r ∷ rs) same linked spares apart =
+      (apart_step q r _ _ _ _ same (extent_put r linked.1 spares.0) apart.0, apart_put q (link_in f r) rs same linked.3 spares.1 apart.1)
 
   -- the chain stays
-  pub linked_put : (first : ℕ) (qs : List ℕ) → IsLinked h f first qs → IsBeside qs → IsLinked h (put_at cell (to_be_bytes w64 value) f) first qs
+  pub linked_put : (first : ℕ) (qs : List ℕ) → IsLinked h f first qs → IsBeside f cell qs → IsLinked h (put_at cell (to_be_bytes w64 value) f) first qs
   linked_put first [] linked beside = linked
   linked_put first (q ∷ qs) linked beside =
       let g = put_at cell (to_be_bytes w64 value) f in
       let same : link_in g q ≡ link_in f q = number_beside cell value f fits (q + 16) (link_beside q (extent_in f q) (whole_long h f q linked.1) beside.0) in
-      (linked.0, whole_put q linked.1 (spared q beside.0), apart_put q (link_in f q) qs (extent_put q linked.1 (spared q beside.0)) linked.3 beside.1 linked.2, subst (λ (n : ℕ). IsLinked h g n qs) (sym same) (linked_put (link_in f q) qs linked.3 beside.1))
+      (linked.0, whole_put q linked.1 (spared f cell q beside.0), apart_put q (link_in f q) qs (extent_put q linked.1 (spared f cell q beside.0)) linked.3 (all_spared f cell qs beside.1) linked.2, subst (λ (n : ℕ). IsLinked h g n qs) (sym same) (linked_put (link_in f q) qs linked.3 beside.1))
 
   -- a cell before the records
-  pub front_is_beside : (first : ℕ) (qs : List ℕ) → cell + 8 ≤ base_of h.p → IsLinked h f first qs → IsBeside qs
+  pub front_is_beside : (first : ℕ) (qs : List ℕ) → cell + 8 ≤ base_of h.p → IsLinked h f first qs → IsBeside f cell qs
   front_is_beside first [] front linked = tt
   front_is_beside first (q ∷ qs) front linked = (inl (omega (arith, front, linked.1.behind)), front_is_beside (link_in f q) qs front linked.3)
 
@@ -125,7 +134,7 @@ inserted h f bucket place places below small next =
     let link : link_in g place ≡ u64_in f cell = number_beside cell place f fits (place + 16) (inr (omega (arith, before))) ∙ next.link in
     record {
       heads = omega (arith, next.chain.heads, length_put cell place f fits);
-      linked = (number_put cell place f fits small, whole_put h cell place f fits place next.whole (inl before), apart_put h cell place f fits place (u64_in f cell) places (extent_put h cell place f fits place next.whole (inl before)) linked beside next.apart, subst (λ (n : ℕ). IsLinked h g n places) (sym link) (linked_put h cell place f fits (u64_in f cell) places linked beside));
+      linked = (number_put cell place f fits small, whole_put h cell place f fits place next.whole (inl before), apart_put h cell place f fits place (u64_in f cell) places (extent_put h cell place f fits place next.whole (inl before)) linked (all_spared f cell places beside) next.apart, subst (λ (n : ℕ). IsLinked h g n places) (sym link) (linked_put h cell place f fits (u64_in f cell) places linked beside));
     }
 
 cells_apart : (bucket other : ℕ) → other ≢ bucket → (head_cell other + 8 ≤ head_cell bucket) ⊎ (head_cell bucket + 8 ≤ head_cell other)

@@ -1,5 +1,6 @@
 -- A bucket as the list of the places of its blocks, the first of its chain first.
-use Rattle.std.specs.Prelude.{◌≡◌, ◌⊎◌, ℕ, ◌+◌, ◌*◌, ◌≤◌, List, [], ◌∷◌, length, drop, Some}
+use Rattle.std.specs.Prelude.{◌≡◌, ◌⊎◌, ℕ, ◌+◌, ◌*◌, ◌≤◌, List, [], ◌∷◌, length, drop, Bool, true, Some, if◌then◌else◌, ◌==◌}
+use Rattle.std.specs.List.{list_any}
 use Rattle.tk_block.specs.Number.{u64_in}
 use Rattle.tk_block.specs.Text.{head_at, base_of}
 use Rattle.tk_block.specs.Blocks.{body_at, room_of}
@@ -48,3 +49,17 @@ pub record IsNext (h : StaticHead) (f : List ℕ) (bucket place : ℕ) (places :
   pub whole : IsWhole h f place
   pub apart : IsApart f place places
   pub link : link_in f place ≡ u64_in f (head_cell bucket)
+
+-- the chain has the block
+abbrev pub has_block : (place : ℕ) → List ℕ → Bool
+has_block place places = list_any (λ (q : ℕ). q == place) places
+
+-- the cell that leads to a block of a chain that begins at a cell
+abbrev pub cell_to : (cell place : ℕ) → List ℕ → ℕ
+cell_to cell place [] = cell
+cell_to cell place (q ∷ qs) = if q == place then cell else cell_to (q + 16) place qs
+
+-- the chain without the block
+abbrev pub without : (place : ℕ) → List ℕ → List ℕ
+without place [] = []
+without place (q ∷ qs) = if q == place then qs else q ∷ without place qs
