@@ -1,4 +1,5 @@
 pub mod Follows
 pub mod Links
+pub mod Searches
 pub mod Unlinks
 pub mod Writes

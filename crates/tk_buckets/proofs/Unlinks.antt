@@ -62,7 +62,7 @@ module _ (h : StaticHead) (f : List ℕ) (place : ℕ) where
   cells_apart cell first [] beside linked = tt
   cells_apart cell first (q ∷ qs) beside linked = (cell_apart cell q (extent_in f q) (whole_long h f q linked.1) beside.0, cells_apart cell (link_in f q) qs beside.1 linked.3)
 
-  some_behind : (q : ℕ) (qs : List ℕ) → q ≢ place → has_block place (q ∷ qs) ≡ true → has_block place qs ≡ true
+  pub some_behind : (q : ℕ) (qs : List ℕ) → q ≢ place → has_block place (q ∷ qs) ≡ true → has_block place qs ≡ true
   some_behind q qs ne has = subst (λ (b : Bool). (b || list_any (λ (q : ℕ). q == place) qs) ≡ true) (ne_eqb q place ne) has
 
   apart_choice : (g : List ℕ) (b : Bool) (q r : ℕ) (rs rest : List ℕ) → IsApart g q (r ∷ rs) → IsApart g q rest → IsApart g q (cond b rs (r ∷ rest))
@@ -114,3 +114,18 @@ left_out h f bucket place at places below fits small is chain has =
       heads = omega (arith, chain.heads, length_put at (link_in f place) f fits);
       linked = unlinked h f place at fits small cell places is (front_is_beside h cell 0 f first_fits (u64_in f cell) places front chain.linked) chain.linked has;
     }
+
+links_within : (h : StaticHead) (f : List ℕ) (first : ℕ) (qs : List ℕ) → IsLinked h f first qs → AllLinks (λ x. x + 8 ≤ length f) qs
+links_within h f first [] linked = tt
+links_within h f first (q ∷ qs) linked = (omega (arith, whole_long h f q linked.1, linked.1.within), links_within h f (link_in f q) qs linked.3)
+
+pub cell_within : (h : StaticHead) (f : List ℕ) (cell place first : ℕ) (qs : List ℕ) → cell + 8 ≤ length f → IsLinked h f first qs → cell_to cell place qs + 8 ≤ length f
+cell_within h f cell place first qs fits linked = of_any (λ x. x + 8 ≤ length f) cell place qs fits (links_within h f first qs linked)
+
+-- a block of the chain stands whole
+pub has_whole : (h : StaticHead) (f : List ℕ) (place first : ℕ) (qs : List ℕ) → IsLinked h f first qs → has_block place qs ≡ true → IsWhole h f place
+has_whole h f place first [] linked has = absurd (cc (has))
+has_whole h f place first (q ∷ qs) linked has = elim (cases_eq q place) [
+  | inl e ↦ subst (λ (n : ℕ). IsWhole h f n) e linked.1
+  | inr ne ↦ has_whole h f place (link_in f q) qs linked.3 (some_behind h f place q qs ne has)
+]

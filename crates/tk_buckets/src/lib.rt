@@ -5,5 +5,5 @@ mod linking;
 mod places;
 mod read;
 
-pub use linking::insert;
+pub use linking::{insert, unlink};
 pub use places::{PlaceList, places_of};
