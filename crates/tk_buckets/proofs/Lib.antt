@@ -1,3 +1,4 @@
+pub mod Cuts
 pub mod Follows
 pub mod Links
 pub mod Searches

@@ -1,4 +1,4 @@
-ghost use Rattle.std.specs.Prelude.{◌≡◌, ◌+◌, ◌≤◌, length, IfOk, IfSome};
+ghost use Rattle.std.specs.Prelude.{◌≡◌, ◌+◌, ◌<◌, ◌≤◌, ◌^◌, length, IfOk, IfSome};
 ghost use Rattle.tk_disk.specs.Crash.{Within};
 ghost use Rattle.tk_disk.specs.Disk.{HasCause};
 ghost use Rattle.tk_block.specs.Number.{u64_in};
@@ -9,6 +9,7 @@ use tk_disk::{Disk, DiskError};
 /// The number in the eight bytes at a place.
 pub(crate) fn number_at<D: Disk>(disk: &mut D, at: u64) -> Result<u64, DiskError>
     ensures value { IfSome (D.image disk.old) (λ f. at + 8 ≤ length f → IfOk result (λ n. n ≡ u64_in f at)) }
+    ensures fits { IfOk result (λ n. n < 2 ^ 64) }
     ensures image { D.image disk.new ≡ D.image disk.old }
     ensures taken { D.taken_count disk.new ≤ D.taken_count disk.old + 8 }
     ensures cause { HasCause (D.fault_count disk.old) (D.fault_count disk.new) result }

@@ -1,0 +1,48 @@
+use Rattle.std.proofs.Common.{◌≡◌, ℕ, ◌+◌, ◌≤◌, List, length, true, sym, ◌∙◌, subst, arith}
+use Rattle.std.specs.Prelude.{Option, IfSome, Some, OnOk}
+use Rattle.std.specs.Option.{option_map}
+use Rattle.std.specs.Int.{w64, to_be_bytes}
+use Rattle.std.proofs.lemmas.Option.{IfSome_then}
+use Rattle.tk_disk.specs.Disk.{put_at}
+use Rattle.tk_block.specs.Number.{u64_in}
+use Rattle.tk_buckets.specs.Chain.{IsChain, has_block, without}
+use Rattle.tk_buckets.proofs.Cuts.{found_in, cell_in, cut_in, cut_written, cut_leaves}
+use Rattle.tk_buckets.proofs.linking.unlink.Goals as goal
+
+pub returns-in_default-clause-written : goal.returns-in_default-clause-written
+returns-in_default-clause-written g c = λ places.
+    IfSome_then (g.D.Disk.image c.args.disk.now)
+    (found_in c.args.head.now (g.D.Disk.image c.args.disk.now) (g.D.Disk.image c.len.new.self) c.args.bucket c.args.place places c.in_ok-cell.field-0 c.requires.bucket c.len.ensures.image (c.in_ok-cell.ensures.found c.args.head.now places))
+    (λ f known chain has. absurd (c.in_default.not-Some _ (known chain has)))
+
+pub returns-in_default-clause-chain : goal.returns-in_default-clause-chain
+returns-in_default-clause-chain g c = λ places.
+    IfSome_then (g.D.Disk.image c.args.disk.now)
+    (found_in c.args.head.now (g.D.Disk.image c.args.disk.now) (g.D.Disk.image c.len.new.self) c.args.bucket c.args.place places c.in_ok-cell.field-0 c.requires.bucket c.len.ensures.image (c.in_ok-cell.ensures.found c.args.head.now places))
+    (λ f known chain has. absurd (c.in_default.not-Some _ (known chain has)))
+
+pub write_at-requires-clause-within : goal.write_at-requires-clause-within
+write_at-requires-clause-within g c =
+    subst (λ (o : Option (List ℕ)). IfSome o (λ f. c.in-Some.cell ≤ length f)) (sym (c.number_at.ensures.image ∙ c.cell_of.ensures.image ∙ c.len.ensures.image))
+    (cell_in c.args.head.now (g.D.Disk.image c.args.disk.now) c.args.bucket c.args.place c.in-Some.cell c.in_ok-cell.field-0 c.requires.bucket c.in-Some.is c.requires.chain
+    (λ places. found_in c.args.head.now (g.D.Disk.image c.args.disk.now) (g.D.Disk.image c.len.new.self) c.args.bucket c.args.place places c.in_ok-cell.field-0 c.requires.bucket c.len.ensures.image (c.in_ok-cell.ensures.found c.args.head.now places)))
+
+pub returns-clause-written : goal.returns-clause-written
+returns-clause-written g c = λ places.
+    let image = g.D.Disk.image c.args.disk.now in
+    cut_written c.write_at.result c.args.head.now image (g.D.Disk.image c.write_at.new.self) c.args.bucket c.args.place c.in-Some.cell c.in_ok-link.link places
+    (cut_in c.args.head.now image c.args.bucket c.args.place c.in-Some.cell c.saturating_add.result c.in_ok-link.link places c.in_ok-cell.field-0 c.requires.bucket c.in-Some.is c.requires.size c.saturating_add.ensures
+    (found_in c.args.head.now image (g.D.Disk.image c.len.new.self) c.args.bucket c.args.place places c.in_ok-cell.field-0 c.requires.bucket c.len.ensures.image (c.in_ok-cell.ensures.found c.args.head.now places))
+    (subst (λ (o : Option (List ℕ)). IfSome o (λ f. c.saturating_add.result + 8 ≤ length f → c.in_ok-link.link ≡ u64_in f c.saturating_add.result)) (c.cell_of.ensures.image ∙ c.len.ensures.image) c.in_ok-link.ensures.value))
+    (subst (λ (l : List ℕ). OnOk c.write_at.result (g.D.Disk.image c.write_at.new.self ≡ option_map (put_at c.in-Some.cell l) image)) c.to_be_bytes.ensures
+    (subst (λ (o : Option (List ℕ)). OnOk c.write_at.result (g.D.Disk.image c.write_at.new.self ≡ option_map (put_at c.in-Some.cell c.to_be_bytes.result) o)) (c.number_at.ensures.image ∙ c.cell_of.ensures.image ∙ c.len.ensures.image) c.write_at.ensures.written))
+
+pub returns-clause-chain : goal.returns-clause-chain
+returns-clause-chain g c = λ places.
+    let image = g.D.Disk.image c.args.disk.now in
+    cut_leaves c.write_at.result c.args.head.now image (g.D.Disk.image c.write_at.new.self) c.args.bucket c.args.place c.in-Some.cell c.in_ok-link.link places c.requires.bucket c.in_ok-link.ensures.fits
+    (cut_in c.args.head.now image c.args.bucket c.args.place c.in-Some.cell c.saturating_add.result c.in_ok-link.link places c.in_ok-cell.field-0 c.requires.bucket c.in-Some.is c.requires.size c.saturating_add.ensures
+    (found_in c.args.head.now image (g.D.Disk.image c.len.new.self) c.args.bucket c.args.place places c.in_ok-cell.field-0 c.requires.bucket c.len.ensures.image (c.in_ok-cell.ensures.found c.args.head.now places))
+    (subst (λ (o : Option (List ℕ)). IfSome o (λ f. c.saturating_add.result + 8 ≤ length f → c.in_ok-link.link ≡ u64_in f c.saturating_add.result)) (c.cell_of.ensures.image ∙ c.len.ensures.image) c.in_ok-link.ensures.value))
+    (subst (λ (l : List ℕ). OnOk c.write_at.result (g.D.Disk.image c.write_at.new.self ≡ option_map (put_at c.in-Some.cell l) image)) c.to_be_bytes.ensures
+    (subst (λ (o : Option (List ℕ)). OnOk c.write_at.result (g.D.Disk.image c.write_at.new.self ≡ option_map (put_at c.in-Some.cell c.to_be_bytes.result) o)) (c.number_at.ensures.image ∙ c.cell_of.ensures.image ∙ c.len.ensures.image) c.write_at.ensures.written))
