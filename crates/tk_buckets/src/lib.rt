@@ -6,4 +6,7 @@ mod places;
 mod read;
 
 pub use linking::{insert, unlink};
-pub use places::{PlaceList, places_of};
+pub use places::{PlaceList, chain};
+
+#[cfg(test)]
+mod tests;

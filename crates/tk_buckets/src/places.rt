@@ -1,6 +1,7 @@
 ghost use Rattle.std.specs.Prelude.{◌≡◌, ◌+◌, ◌*◌, ◌<◌, ◌≤◌, ◌^◌, List, ℕ, length, IfOk, IfSome};
 ghost use Rattle.tk_disk.specs.Crash.{Within};
 ghost use Rattle.tk_disk.specs.Disk.{HasFaultCause};
+ghost use Rattle.tk_store.specs.Store.{HasCause, NeverFull};
 ghost use Rattle.tk_block.specs.Number.{u64_in};
 ghost use Rattle.tk_block.specs.declared.head.StaticHead.{StaticHead};
 ghost use Rattle.tk_buckets.specs.Chain.{IsLinked, IsChain};
@@ -10,6 +11,7 @@ use std::alloc::Global;
 use tk_block::StaticHead;
 use tk_disk::{Disk, DiskError};
 use tk_model::ListOf;
+use tk_store::StoreError;
 
 /// Places of blocks.
 pub type PlaceList = ListOf<u64>;
@@ -38,7 +40,7 @@ fn follow<D: Disk>(
 }
 
 /// As `chain`, with the disk's error.
-pub fn places_of<D: Disk>(
+fn places_of<D: Disk>(
     alloc: Global,
     disk: &mut D,
     head: &StaticHead,
@@ -55,4 +57,28 @@ pub fn places_of<D: Disk>(
     let len = disk.len()?;
     let first = number_at(disk, 64 + 8 * bucket)?;
     follow(alloc, disk, first, len)
+}
+
+/// The places of a bucket's blocks, the first of its chain first. It follows no more links than a file of this length
+/// can have blocks.
+pub fn chain<D: Disk>(
+    alloc: Global,
+    disk: &mut D,
+    head: &StaticHead,
+    bucket: u64,
+) -> Result<PlaceList, StoreError>
+    requires p { head.now.p ≤ 24 }
+    requires bucket { bucket < 2 ^ head.now.p }
+    ensures all { (places : List ℕ) → IfSome (D.image disk.old) (λ f. IsChain head.now f bucket places → IfOk result (λ l. l ≡ places)) }
+    ensures image { D.image disk.new ≡ D.image disk.old }
+    ensures taken { (places : List ℕ) → IfSome (D.image disk.old) (λ f. IsChain head.now f bucket places → D.taken_count disk.new ≤ D.taken_count disk.old + 8 + 8 * length places) }
+    ensures cause { HasCause (D.fault_count disk.old) (D.fault_count disk.new) result }
+    ensures never_full { NeverFull result }
+    ensures crash { Within (D.may_leave disk.old) (D.may_leave disk.new) }
+{
+    match places_of(alloc, disk, head, bucket) {
+        Ok(places) => Ok(places),
+        Err(DiskError::Fault) => Err(StoreError::Fault),
+        Err(DiskError::NoMemory) => Err(StoreError::NoMemory),
+    }
 }
