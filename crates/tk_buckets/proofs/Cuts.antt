@@ -4,6 +4,8 @@ use Rattle.std.specs.Prelude.{min, Option, Some, None, IfSome, Result, OnOk}
 use Rattle.std.specs.Option.{option_map}
 use Rattle.std.specs.Int.{w64, to_be_bytes}
 use Rattle.std.proofs.lemmas.Result.{on_ok_weaker}
+use Rattle.std.proofs.lemmas.Option.{IfSome_then}
+use Rattle.tk_disk.specs.Crash.{Torn, Follows, Within}
 use Rattle.tk_disk.specs.Disk.{put_at}
 use Rattle.tk_block.specs.Number.{u64_in}
 use Rattle.tk_block.specs.declared.head.StaticHead.{StaticHead}
@@ -79,3 +81,21 @@ cut_leaves r h (Some f) new bucket place cell link places below small cut writte
     on_ok_weaker r
     (λ is. subst (λ (o : Option (List ℕ)). IfSome o (λ g. IsChain h g bucket (without place places))) (sym (is ∙ ap (λ (n : ℕ). Some (put_at cell (to_be_bytes w64 n) f)) c.link_is)) left)
     written
+
+always : (o : Option (List ℕ)) (A B : List ℕ → Type 0) (R : Type 0) → R → IfSome o (λ f. A f → B f → R)
+always None A B R so = tt
+always (Some f) A B R so = λ a b. so
+
+-- where nothing was written, nothing is torn
+pub nothing_torn : (h : StaticHead) (o : Option (List ℕ)) (bucket place : ℕ) (places : List ℕ) (old new : List ℕ → Type 0) → Within old new
+    → IfSome o (λ f. IsChain h f bucket places → has_block place places ≡ true → Follows (Torn (cell_to (head_cell bucket) place places) 8) old new)
+nothing_torn h o bucket place places old new within =
+    always o (λ f. IsChain h f bucket places) (λ f. has_block place places ≡ true) (Follows (Torn (cell_to (head_cell bucket) place places) 8) old new)
+    (λ c left. (c, within c left, record { no_shorter = omega arith; same = λ i below outside. refl }))
+
+pub cell_torn : (h : StaticHead) (o : Option (List ℕ)) (bucket place cell link : ℕ) (places : List ℕ) (old mid new : List ℕ → Type 0)
+    → IfSome o (λ f. IsChain h f bucket places → has_block place places ≡ true → IsCut h f bucket place cell link places) → Within old mid → Follows (Torn cell 8) mid new
+    → IfSome o (λ f. IsChain h f bucket places → has_block place places ≡ true → Follows (Torn (cell_to (head_cell bucket) place places) 8) old new)
+cell_torn h o bucket place cell link places old mid new cut within torn =
+    IfSome_then o cut
+    (λ f known chain has. subst (λ (n : ℕ). Follows (Torn n 8) old new) (known chain has).cell_is (λ c left. let d = torn c left in (d.0, within d.0 d.1, d.2)))

@@ -91,6 +91,8 @@ pub fn unlink<D: Disk>(
         → OnOk result (IfSome (D.image disk.new) (λ g. IsChain head.now g bucket (without place places)))) }
     ensures told { is_some (D.image disk.new) ≡ is_some (D.image disk.old) }
     ensures cause { HasCause (D.fault_count disk.old) (D.fault_count disk.new) result }
+    ensures crash { (places : List ℕ) → IfSome (D.image disk.old) (λ f. IsChain head.now f bucket places → has_block place places ≡ true
+        → Follows (Torn (cell_to (head_cell bucket) place places) 8) (D.may_leave disk.old) (D.may_leave disk.new)) }
 {
     let len = disk.len()?;
     let Some(cell) = cell_of(disk, 64 + 8 * bucket, place, len)? else {
