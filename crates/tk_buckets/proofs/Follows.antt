@@ -1,5 +1,5 @@
 -- Links that are followed one by one.
-use Rattle.std.proofs.Common.{◌≡◌, ◌≢◌, ◌⊎◌, inl, inr, ℕ, ◌+◌, ◌*◌, ◌/◌, ◌-◌, ◌<◌, ◌≤◌, ◌^◌, List, [], ◌∷◌, ◌++◌, suc, length, take, drop, refl, sym, ◌∙◌, ap, subst, arith, append_assoc, length-append}
+use Rattle.std.proofs.Common.{◌≡◌, ◌≢◌, ◌⊎◌, inl, inr, ℕ, ◌+◌, ◌*◌, ◌/◌, ◌<◌, ◌≤◌, ◌^◌, List, [], ◌∷◌, ◌++◌, suc, length, take, drop, refl, sym, ◌∙◌, ap, subst, arith, append_assoc, length-append}
 use Rattle.std.specs.Prelude.{min, Option, Some, None, IfSome, Bool, true, false, eqb, ◌||◌}
 use Rattle.std.specs.List.{IsDistinct, AllByRecursion, list_any}
 use Rattle.std.proofs.lemmas.Bool.{ne_eqb, eqb-true}
@@ -8,9 +8,8 @@ use Rattle.std.proofs.lemmas.Map.Steps.{length-le_from_distinct_below}
 use Rattle.std.specs.Int.{w64, from_be_bytes}
 use Rattle.tk_disk.specs.Disk.{ReadsFrom}
 use Rattle.tk_block.specs.Number.{u64_in}
-use Rattle.tk_block.specs.Text.{base_of}
 use Rattle.tk_block.specs.declared.head.StaticHead.{StaticHead}
-use Rattle.tk_buckets.specs.Chain.{IsWhole, IsApart, IsLinked, IsChain, extent_in, link_in, head_cell}
+use Rattle.tk_buckets.specs.Chain.{IsApart, IsLinked, IsChain, extent_in, link_in, head_cell}
 use Rattle.tk_buckets.proofs.Links.{whole_long, head_before}
 
 read_whole : (f : List ℕ) (at n : ℕ) (into : List ℕ) → ReadsFrom f at into n → length into ≡ 8 → at + 8 ≤ length f → u64_in into 0 ≡ u64_in f at

@@ -1,5 +1,5 @@
 -- The search for the cell that leads to a block.
-use Rattle.std.proofs.Common.{◌≡◌, ◌≢◌, ◌⊎◌, inl, inr, ℕ, suc, ◌+◌, ◌*◌, ◌/◌, ◌-◌, ◌<◌, ◌≤◌, ◌^◌, Bool, true, false, cond, eqb, leb, List, [], ◌∷◌, length, refl, sym, ◌∙◌, ap, subst, arith}
+use Rattle.std.proofs.Common.{◌≡◌, ◌≢◌, ◌⊎◌, inl, inr, ℕ, ◌+◌, ◌/◌, ◌-◌, ◌<◌, ◌≤◌, ◌^◌, Bool, true, cond, eqb, leb, List, [], ◌∷◌, length, refl, sym, ◌∙◌, ap, subst, arith}
 use Rattle.std.specs.Prelude.{min, ◌&&◌, Option, Some, None, IfSome}
 use Rattle.std.proofs.lemmas.Bool.{eq-eqb, ne_eqb, cases_eq, le-leb}
 use Rattle.tk_block.specs.Number.{u64_in}
@@ -7,7 +7,7 @@ use Rattle.tk_block.specs.declared.head.StaticHead.{StaticHead}
 use Rattle.tk_buckets.specs.Chain.{IsLinked, link_in, has_block, cell_to}
 use Rattle.tk_buckets.proofs.Links.{whole_long}
 use Rattle.tk_buckets.proofs.Follows.{linked_few}
-use Rattle.tk_buckets.proofs.Unlinks.{some_behind, cell_within}
+use Rattle.tk_buckets.proofs.Unlinks.{some_behind}
 
 module _ (h : StaticHead) (f : List ℕ) (place : ℕ) (places : List ℕ) (cell : ℕ) where
   -- the search stands at a cell that leads to the rest of the chain

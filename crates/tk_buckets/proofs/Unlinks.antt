@@ -1,12 +1,11 @@
 -- A block that is taken out of its chain.
-use Rattle.std.proofs.Common.{◌≡◌, ◌≢◌, ◌⊎◌, inl, inr, ℕ, ◌+◌, ◌*◌, ◌<◌, ◌≤◌, ◌^◌, Bool, true, false, cond, eqb, List, [], ◌∷◌, length, refl, sym, ◌∙◌, ap, subst, arith}
-use Rattle.std.specs.Prelude.{◌==◌, ◌||◌, Option, Some, None, IfSome, Result, OnOk}
+use Rattle.std.proofs.Common.{◌≡◌, ◌≢◌, ◌⊎◌, inl, inr, ℕ, ◌+◌, ◌<◌, ◌≤◌, ◌^◌, Bool, true, false, cond, eqb, List, [], ◌∷◌, length, refl, sym, ◌∙◌, ap, subst, arith}
+use Rattle.std.specs.Prelude.{◌==◌, ◌||◌}
 use Rattle.std.specs.Int.{w64, to_be_bytes}
 use Rattle.std.specs.List.{list_any}
 use Rattle.std.proofs.lemmas.Bool.{eq-eqb, ne_eqb, cases_eq}
 use Rattle.tk_disk.specs.Disk.{put_at}
 use Rattle.tk_block.specs.Number.{u64_in}
-use Rattle.tk_block.specs.Text.{base_of}
 use Rattle.tk_block.specs.declared.head.StaticHead.{StaticHead}
 use Rattle.tk_buckets.specs.Chain.{IsWhole, IsApart, IsLinked, IsChain, extent_in, link_in, head_cell, has_block, cell_to, without}
 use Rattle.tk_buckets.proofs.Writes.{length_put, number_beside, number_put}
@@ -49,9 +48,10 @@ module _ (h : StaticHead) (f : List ℕ) (place : ℕ) where
   spares_all cell first (q ∷ qs) beside linked = elim (cases_eq q place) [
     | inl e ↦ subst (λ (b : Bool). AllSpared f (cond b cell (cell_to (q + 16) place qs)) (q ∷ qs)) (sym (eq-eqb q place e)) (all_spared f cell (q ∷ qs) beside)
     | inr ne ↦
-        subst (λ (b : Bool). AllSpared f (cond b cell (cell_to (q + 16) place qs)) (q ∷ qs)) (sym (ne_eqb q place ne))
-        (of_any (λ x. Spares f x q) (q + 16) place qs (inr (inl refl)) (links_spare q (link_in f q) qs linked.3 linked.2),
-         spares_all (q + 16) (link_in f q) qs (links_beside q qs (whole_long h f q linked.1) linked.2) linked.3)
+        subst (λ (b : Bool). AllSpared f (cond b cell (cell_to (q + 16) place qs)) (q ∷ qs)) (sym (ne_eqb q place ne)) (
+          of_any (λ x. Spares f x q) (q + 16) place qs (inr (inl refl)) (links_spare q (link_in f q) qs linked.3 linked.2),
+          spares_all (q + 16) (link_in f q) qs (links_beside q qs (whole_long h f q linked.1) linked.2) linked.3,
+        )
   ]
 
   cell_apart : (cell q e : ℕ) → 48 ≤ e → (cell + 8 ≤ q) ⊎ (q + e ≤ cell) → (cell + 8 ≤ q + 16) ⊎ (q + 16 + 8 ≤ cell)
@@ -95,11 +95,12 @@ module _ (h : StaticHead) (f : List ℕ) (place : ℕ) where
           let apart : (cell + 8 ≤ at) ⊎ (at + 8 ≤ cell) =
           subst (λ (n : ℕ). (cell + 8 ≤ n) ⊎ (n + 8 ≤ cell)) (sym there)
           (of_any (λ x. (cell + 8 ≤ x) ⊎ (x + 8 ≤ cell)) (q + 16) place qs (cell_apart cell q (extent_in f q) (whole_long h f q linked.1) beside.0) (cells_apart cell (link_in f q) qs beside.1 linked.3)) in
-          subst (λ (b : Bool). IsLinked h after (u64_in after cell) (cond b qs (q ∷ without place qs))) (sym (ne_eqb q place ne))
-          (number_beside at (link_in f place) f fits cell apart ∙ linked.0,
-           whole_put h at (link_in f place) f fits q linked.1 spares.0,
-           apart_without after q qs (apart_put h at (link_in f place) f fits q (link_in f q) qs (extent_put h at (link_in f place) f fits q linked.1 spares.0) linked.3 spares.1 linked.2),
-           unlinked (q + 16) qs there (links_beside q qs (whole_long h f q linked.1) linked.2) linked.3 (some_behind q qs ne has))
+          subst (λ (b : Bool). IsLinked h after (u64_in after cell) (cond b qs (q ∷ without place qs))) (sym (ne_eqb q place ne)) (
+            number_beside at (link_in f place) f fits cell apart ∙ linked.0,
+            whole_put h at (link_in f place) f fits q linked.1 spares.0,
+            apart_without after q qs (apart_put h at (link_in f place) f fits q (link_in f q) qs (extent_put h at (link_in f place) f fits q linked.1 spares.0) linked.3 spares.1 linked.2),
+            unlinked (q + 16) qs there (links_beside q qs (whole_long h f q linked.1) linked.2) linked.3 (some_behind q qs ne has),
+          )
     ]
 
 -- the bucket's chain without the block

@@ -1,5 +1,5 @@
 -- Eight bytes written within a file.
-use Rattle.std.proofs.Common.{◌≡◌, ◌⊎◌, inl, inr, ℕ, ◌+◌, ◌-◌, ◌<◌, ◌≤◌, ◌^◌, List, ◌++◌, length, take, drop, refl, sym, ◌∙◌, ap, arith, append_assoc, length-append}
+use Rattle.std.proofs.Common.{◌≡◌, ◌⊎◌, inl, inr, ℕ, ◌+◌, ◌<◌, ◌≤◌, ◌^◌, List, ◌++◌, length, take, drop, refl, sym, ◌∙◌, ap, arith, append_assoc, length-append}
 use Rattle.std.specs.Int.{w64, to_be_bytes, from_be_bytes}
 use Rattle.std.proofs.lemmas.List.{take_at, drop_at, length-take-le, length-drop}
 use Rattle.std.proofs.lemmas.Slice.{drop-append-drop}
@@ -9,9 +9,6 @@ use Rattle.tk_block.specs.Number.{u64_in}
 use Rattle.tk_block.proofs.Cells.{within}
 
 module _ (at value : ℕ) (f : List ℕ) (fits : at + 8 ≤ length f) where
-  bytes : List ℕ
-  bytes = to_be_bytes w64 value
-
   pub length_put : length (put_at at (to_be_bytes w64 value) f) ≡ length f
   length_put =
       omega (arith, fits, length-append (take at f) (to_be_bytes w64 value ++ drop (at + 8) f), length-append (to_be_bytes w64 value) (drop (at + 8) f), length-take-le at f (omega (arith, fits)), length-drop (at + 8) f)

@@ -48,12 +48,7 @@ fn found_cell(found: bool, cell: u64) -> Option<u64>
 }
 
 /// The cell that leads to a block, from a cell on, in a file of this length.
-fn cell_of<D: Disk>(
-    disk: &mut D,
-    cell: u64,
-    place: u64,
-    len: u64,
-) -> Result<Option<u64>, DiskError>
+fn cell_of<D: Disk>(disk: &mut D, cell: u64, place: u64, len: u64) -> Result<Option<u64>, DiskError>
     requires len { IfSome (D.image disk.old) (λ f. length f ≡ len) }
     requires size { IfSome (D.image disk.old) (λ f. length f ≤ 2 ^ 40) }
     ensures found { (h : StaticHead) (places : List ℕ) → IfSome (D.image disk.old) (λ f. cell + 8 ≤ length f → IsLinked h f (u64_in f cell) places → has_block place places ≡ true

@@ -1,4 +1,4 @@
-ghost use Rattle.std.specs.Prelude.{◌≡◌, ◌+◌, IfOk, length};
+ghost use Rattle.std.specs.Prelude.{◌≡◌, IfOk, length};
 ghost use Rattle.tk_disk.specs.MemDisk.{mem_bytes};
 
 use super::*;
@@ -21,13 +21,20 @@ fn one_bucket() -> StaticHead
     }
 }
 
-/// A disk with this head at 64, this link at 88, and zeros.
-fn disk_of(alloc: Global, head: u64, link: u64) -> Result<MemDisk, NoMemory>
+/// A disk of zeros.
+fn zeros(alloc: Global) -> Result<MemDisk, NoMemory>
     ensures { IfOk result (λ d. length (mem_bytes d) ≡ 168) }
 {
     let mut bytes = Bytes::new(alloc);
-    bytes.extend_zeros(64)?;
-    bytes.extend(&head.to_be_bytes())?;
+    bytes.extend_zeros(168)?;
+    MemDisk::new(alloc, bytes, 1000, FaultList::new(alloc))
+}
+
+/// A disk with 72 as the head at 64, this link at 88, and zeros.
+fn disk_of(alloc: Global, link: u64) -> Result<MemDisk, NoMemory> {
+    let mut bytes = Bytes::new(alloc);
+    bytes.extend_zeros(71)?;
+    bytes.push(72)?;
     bytes.extend_zeros(16)?;
     bytes.extend(&link.to_be_bytes())?;
     bytes.extend_zeros(72)?;
@@ -37,7 +44,7 @@ fn disk_of(alloc: Global, head: u64, link: u64) -> Result<MemDisk, NoMemory>
 #[test]
 fn two_blocks(rt: HostRuntime) -> Result<(), Fail> {
     let alloc = rt.alloc();
-    let mut disk = disk_of(alloc, 72, 120)?;
+    let mut disk = disk_of(alloc, 120)?;
     let places = chain(alloc, &mut disk, &one_bucket(), 0)?;
     assert_eq!(rt; places.as_slice(), [72, 120].as_slice());
     Ok(())
@@ -46,7 +53,7 @@ fn two_blocks(rt: HostRuntime) -> Result<(), Fail> {
 #[test]
 fn links_that_go_round(rt: HostRuntime) -> Result<(), Fail> {
     let alloc = rt.alloc();
-    let mut disk = disk_of(alloc, 72, 72)?;
+    let mut disk = disk_of(alloc, 72)?;
     let places = chain(alloc, &mut disk, &one_bucket(), 0)?;
     assert_eq!(rt; places.as_slice(), [72, 72, 72].as_slice());
     Ok(())
@@ -55,7 +62,7 @@ fn links_that_go_round(rt: HostRuntime) -> Result<(), Fail> {
 #[test]
 fn a_block_in_front(rt: HostRuntime) -> Result<(), Fail> {
     let alloc = rt.alloc();
-    let mut disk = disk_of(alloc, 0, 0)?;
+    let mut disk = zeros(alloc)?;
     insert(&mut disk, &one_bucket(), 0, 120)?;
     let places = chain(alloc, &mut disk, &one_bucket(), 0)?;
     assert_eq!(rt; places.as_slice(), [120].as_slice());

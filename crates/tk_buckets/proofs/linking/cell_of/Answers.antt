@@ -1,8 +1,7 @@
-use Rattle.std.proofs.Common.{◌≡◌, ◌⊎◌, inl, inr, ℕ, ◌+◌, ◌/◌, ◌≤◌, ◌^◌, List, length, true, sym, ◌∙◌, subst, arith}
-use Rattle.std.specs.Prelude.{Option, IfSome, Some}
+use Rattle.std.proofs.Common.{◌≡◌, ◌⊎◌, inl, inr, ℕ, ◌+◌, ◌/◌, ◌≤◌, List, length, sym, ◌∙◌, subst, arith}
+use Rattle.std.specs.Prelude.{Option, IfSome}
 use Rattle.tk_block.specs.Number.{u64_in}
-use Rattle.tk_buckets.specs.Chain.{IsLinked, has_block, cell_to}
-use Rattle.tk_buckets.proofs.Searches.{ToldToward, begins, goes_on, ends}
+use Rattle.tk_buckets.proofs.Searches.{ToldToward, goes_on, ends}
 use Rattle.tk_buckets.proofs.linking.cell_of.Goals as goal
 use Rattle.tk_buckets.proofs.linking.cell_of.Goals.{then-loop-next-test+else-steps-len, else-loop-next-test}
 

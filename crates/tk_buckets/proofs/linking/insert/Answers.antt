@@ -1,7 +1,6 @@
 use Rattle.std.proofs.Common.{◌≡◌, ℕ, List, ◌∷◌, subst}
 use Rattle.std.specs.Prelude.{OnOk}
 use Rattle.std.specs.Option.{option_map}
-use Rattle.std.specs.Int.{w64, to_be_bytes}
 use Rattle.tk_disk.specs.Disk.{put_at}
 use Rattle.tk_buckets.specs.Chain.{IsChain, IsNext, head_cell}
 use Rattle.tk_buckets.proofs.Links.{inserted, other_stays, told_put}

@@ -1,12 +1,10 @@
-use Rattle.std.proofs.Common.{◌≡◌, ℕ, ◌+◌, ◌≤◌, List, length, true, sym, ◌∙◌, subst, arith}
-use Rattle.std.specs.Prelude.{Option, IfSome, Some, OnOk}
+use Rattle.std.proofs.Common.{◌≡◌, ℕ, ◌+◌, ◌≤◌, List, length, sym, ◌∙◌, subst}
+use Rattle.std.specs.Prelude.{Option, IfSome, OnOk}
 use Rattle.std.specs.Option.{option_map}
-use Rattle.std.specs.Int.{w64, to_be_bytes}
 use Rattle.std.proofs.lemmas.Option.{IfSome_then}
 use Rattle.tk_disk.specs.Crash.{Torn, Follows}
 use Rattle.tk_disk.specs.Disk.{put_at}
 use Rattle.tk_block.specs.Number.{u64_in}
-use Rattle.tk_buckets.specs.Chain.{IsChain, has_block, without}
 use Rattle.tk_buckets.proofs.Cuts.{found_in, cell_in, cut_in, cut_written, cut_leaves, nothing_torn, cell_torn}
 use Rattle.tk_buckets.proofs.linking.unlink.Goals as goal
 

@@ -1,7 +1,7 @@
-use Rattle.std.proofs.Common.{rules, ◌≡◌, ◌≢◌, ◌⊎◌, inl, inr, ℕ, ◌+◌, ◌*◌, ◌/◌, ◌≤◌, List, [], ◌∷◌, ◌++◌, length, sym, ◌∙◌, ap, subst, arith, length-append}
+use Rattle.std.proofs.Common.{◌≡◌, ◌⊎◌, inl, inr, ℕ, ◌+◌, ◌/◌, ◌≤◌, List, [], ◌∷◌, length, sym, ◌∙◌, ap, subst, arith, length-append}
 use Rattle.std.specs.Prelude.{Option, IfSome}
 use Rattle.tk_block.specs.Number.{u64_in}
-use Rattle.tk_buckets.proofs.Follows.{ToldLeft, begins, goes_on, ends, taken_so_far, taken_one_more}
+use Rattle.tk_buckets.proofs.Follows.{ToldLeft, goes_on, ends, taken_so_far, taken_one_more}
 use Rattle.tk_buckets.proofs.places.follow.Goals as goal
 use Rattle.tk_buckets.proofs.places.follow.Goals.{then-loop-next-test+else-len, else-loop-next-test}
 

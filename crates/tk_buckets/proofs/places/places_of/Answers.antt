@@ -1,4 +1,4 @@
-use Rattle.std.proofs.Common.{◌≡◌, ℕ, ◌+◌, ◌*◌, ◌≤◌, List, length, arith}
+use Rattle.std.proofs.Common.{◌≡◌, ◌+◌, ◌*◌, ◌≤◌, length, arith}
 use Rattle.std.specs.Prelude.{IfOk}
 use Rattle.tk_buckets.proofs.Follows.{from_head}
 use Rattle.tk_buckets.proofs.places.places_of.Goals as goal

@@ -1,4 +1,4 @@
-use Rattle.std.proofs.Common.{rules, ◌≡◌, length}
+use Rattle.std.proofs.Common.{rules}
 use Rattle.tk_buckets.proofs.Follows.{number_read}
 use Rattle.tk_buckets.proofs.read.number_at.Goals as goal
 
