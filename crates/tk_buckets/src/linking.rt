@@ -25,7 +25,7 @@ pub fn insert<D: Disk>(
     ensures written { OnOk result (D.image disk.new ≡ option_map (put_at (head_cell bucket) (to_be_bytes w64 place)) (D.image disk.old)) }
     ensures first { (places : List ℕ) → IfSome (D.image disk.old) (λ f. IsNext head.now f bucket place places
         → OnOk result (IfSome (D.image disk.new) (λ g. IsChain head.now g bucket (place ∷ places)))) }
-    ensures others { (other : ℕ) (places : List ℕ) → other ≢ bucket → other < 2 ^ head.now.p → IfSome (D.image disk.old) (λ f. IsChain head.now f other places
+    ensures others { (other : ℕ) (places : List ℕ) → other ≢ bucket → IfSome (D.image disk.old) (λ f. IsChain head.now f other places
         → OnOk result (IfSome (D.image disk.new) (λ g. IsChain head.now g other places))) }
     ensures told { is_some (D.image disk.new) ≡ is_some (D.image disk.old) }
     ensures taken { D.taken_count disk.new ≡ D.taken_count disk.old }
