@@ -4,3 +4,4 @@ pub mod Links
 pub mod Searches
 pub mod Unlinks
 pub mod Writes
+pub mod Written
