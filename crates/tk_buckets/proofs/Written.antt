@@ -1,6 +1,6 @@
 -- Blocks that were written one behind another, each with its link, are chains.
-use Rattle.std.proofs.Common.{◌≡◌, ◌⊎◌, inl, inr, ℕ, ◌+◌, ◌*◌, ◌-◌, ◌<◌, ◌≤◌, ◌^◌, Bool, true, false, cond, eqb, List, [], ◌∷◌, ◌++◌, length, take, drop, refl, sym, ◌∙◌, ap, subst, arith, append_assoc, length-append}
-use Rattle.std.specs.Prelude.{◌&&◌, ◌||◌, Some}
+use Rattle.std.proofs.Common.{◌≡◌, inr, ℕ, ◌+◌, ◌<◌, ◌≤◌, ◌^◌, Bool, true, false, cond, eqb, List, [], ◌∷◌, ◌++◌, length, take, drop, refl, sym, ◌∙◌, ap, subst, arith, append_assoc, length-append}
+use Rattle.std.specs.Prelude.{◌&&◌, ◌||◌, Option, Some, None, IfSome}
 use Rattle.std.specs.Int.{w64, from_be_bytes}
 use Rattle.std.proofs.lemmas.Bool.{eqb-true}
 use Rattle.std.proofs.lemmas.Option.{cond_some}
@@ -9,13 +9,13 @@ use Rattle.tk_block.specs.Number.{u64_in}
 use Rattle.tk_block.specs.Text.{head_at, base_of}
 use Rattle.tk_block.specs.Blocks.{body_at, block_text, extent_of, room_of}
 use Rattle.tk_block.specs.Grammar.{FitsBody}
-use Rattle.tk_block.specs.Layout.{Placed, bucket_in, is_in, laid, renewed, newest, link_of, links_of, texts}
+use Rattle.tk_block.specs.Layout.{Placed, bucket_in, is_in, laid, newest, link_of, links_of, texts}
 use Rattle.tk_block.specs.declared.block.Body.{Body}
 use Rattle.tk_block.specs.declared.head.StaticHead.{StaticHead}
 use Rattle.tk_block.proofs.BlockReads.{block_head, block_link, block_body}
 use Rattle.tk_block.proofs.Layouts.{newest-append}
 use Rattle.tk_block.proofs.Lengths.{length-block_text, room_fits}
-use Rattle.tk_buckets.specs.Chain.{IsWhole, IsApart, IsLinked, extent_in, link_in}
+use Rattle.tk_buckets.specs.Chain.{IsWhole, IsApart, IsLinked, IsChain, IsWritten, AllFitBody, place_step, bucket_places, extent_in, link_in}
 
 head_says : (bytes : List ℕ) (place e : ℕ) → head_at bytes place ≡ Some e → u64_in bytes 4 ≡ e
 unfolding head_at
@@ -43,18 +43,6 @@ module _ (h : StaticHead) (f : List ℕ) (place : ℕ) (b : Body) (link : ℕ) (
     room = omega (arith, room_fits (room_of b), written_extent);
     within = omega (arith, written_extent, ap length is, length-drop place f, length-append (block_text b place link) rest, length-block_text b place link);
   }
-
--- the places of the blocks of a bucket since the last clear, the newest first
-abbrev pub place_step : (p bucket : ℕ) → List ℕ → Placed → List ℕ
-place_step p bucket found x = cond (eqb x.body.kind 4) [] (cond (is_in p bucket x.body) (x.place ∷ found) found)
-
-abbrev pub places_of : (p bucket : ℕ) → List ℕ → List Placed → List ℕ
-places_of p bucket found [] = found
-places_of p bucket found (x ∷ xs) = places_of p bucket (place_step p bucket found x) xs
-
-abbrev pub AllFit : List Body → Type 0
-AllFit [] = Unit {0}
-AllFit (b ∷ bs) = FitsBody b × AllFit bs
 
 -- each of these blocks ends before a place
 abbrev pub AllBefore : List ℕ → (at : ℕ) → List ℕ → Type 0
@@ -93,9 +81,9 @@ before_by_kind f false true at next found before = before
 before_by_kind f false false at next found before = before.1
 
 -- the blocks of a bucket, where all were written with their links
-pub chain_written : (h : StaticHead) (f : List ℕ) (bucket : ℕ) (before : List Placed) (bodies : List Body) (at : ℕ) (found : List ℕ) → length f ≤ 2 ^ 40 → base_of h.p ≤ at → AllFit bodies
+pub chain_written : (h : StaticHead) (f : List ℕ) (bucket : ℕ) (before : List Placed) (bodies : List Body) (at : ℕ) (found : List ℕ) → length f ≤ 2 ^ 40 → base_of h.p ≤ at → AllFitBody bodies
     → drop at f ≡ texts (laid at bodies) (links_of h.p before (laid at bodies)) → IsLinked h f (newest h.p bucket 0 before) found → AllBefore f at found
-    → IsLinked h f (newest h.p bucket 0 (before ++ laid at bodies)) (places_of h.p bucket found (laid at bodies))
+    → IsLinked h f (newest h.p bucket 0 (before ++ laid at bodies)) (bucket_places h.p bucket found (laid at bodies))
 chain_written h f bucket before [] at found size behind fit is linked ended =
     subst (λ (l : List Placed). IsLinked h f (newest h.p bucket 0 l) found) (sym (append-nil before)) linked
 chain_written h f bucket before (b ∷ bs) at found size behind fit is linked ended =
@@ -110,11 +98,25 @@ chain_written h f bucket before (b ∷ bs) at found size behind fit is linked en
     let end : AllBefore f (at + e) (at ∷ found) = (omega (arith, extent), all_later f at (at + e) found (omega arith) ended) in
     let small : n < 2 ^ 64 = omega (arith, first_small h f n at found linked ended, whole.within, size) in
     let more : eqb b.kind 4 ≡ false → is_in p bucket b ≡ true → IsLinked h f at (at ∷ found) = λ kept ours.
-        let same : link ≡ n = ap (λ (c : Bool). cond c 0 (newest p (bucket_in p b.key) 0 before)) kept ∙ ap (λ (k : ℕ). newest p k 0 before) (in_bucket p bucket b ours) in
-        (refl, whole, all_apart f at found ended, subst (λ (k : ℕ). IsLinked h f k found) (sym (written_link h f at b link rest fit.0 is (omega (arith, same, small)) ∙ same)) linked) in
+    let same : link ≡ n = ap (λ (c : Bool). cond c 0 (newest p (bucket_in p b.key) 0 before)) kept ∙ ap (λ (k : ℕ). newest p k 0 before) (in_bucket p bucket b ours) in
+    (refl, whole, all_apart f at found ended, subst (λ (k : ℕ). IsLinked h f k found) (sym (written_link h f at b link rest fit.0 is (omega (arith, same, small)) ∙ same)) linked) in
     let step : IsLinked h f (newest p bucket 0 (before ++ x ∷ [])) (place_step p bucket found x) =
     subst (λ (k : ℕ). IsLinked h f k (place_step p bucket found x)) (sym (newest-append p bucket 0 before (x ∷ []))) (by_kind h f (eqb b.kind 4) (is_in p bucket b) n at found linked more) in
-    subst (λ (l : List Placed). IsLinked h f (newest p bucket 0 l) (places_of p bucket (place_step p bucket found x) (laid (at + e) bs))) (append_assoc before (x ∷ []) (laid (at + e) bs))
+    subst (λ (l : List Placed). IsLinked h f (newest p bucket 0 l) (bucket_places p bucket (place_step p bucket found x) (laid (at + e) bs))) (append_assoc before (x ∷ []) (laid (at + e) bs))
     (chain_written h f bucket (before ++ x ∷ []) bs (at + e) (place_step p bucket found x) size (omega (arith, behind)) fit.1
     (sym (drop-drop e at f) ∙ ap (λ (l : List ℕ). drop e l) is ∙ drop_at (block_text b at link) rest e (length-block_text b at link))
     step (before_by_kind f (eqb b.kind 4) (is_in p bucket b) at (at + e) found end))
+
+-- a bucket of a file whose blocks were written so
+pub bucket_written : (h : StaticHead) (f : List ℕ) (bucket : ℕ) (bodies : List Body) → IsWritten h f bucket bodies → IsChain h f bucket (bucket_places h.p bucket [] (laid (base_of h.p) bodies))
+bucket_written h f bucket bodies w = record {
+  heads = w.heads;
+  linked =
+      subst (λ (n : ℕ). IsLinked h f n (bucket_places h.p bucket [] (laid (base_of h.p) bodies))) (sym w.head)
+      (chain_written h f bucket [] bodies (base_of h.p) [] w.size (omega arith) w.fit w.blocks refl tt);
+}
+
+pub told_written : (h : StaticHead) (o : Option (List ℕ)) (bucket : ℕ) (bodies : List Body) (R : Type 0) → IfSome o (λ f. IsChain h f bucket (bucket_places h.p bucket [] (laid (base_of h.p) bodies)) → R)
+    → IfSome o (λ f. IsWritten h f bucket bodies → R)
+told_written h None bucket bodies R known = tt
+told_written h (Some f) bucket bodies R known = λ w. known (bucket_written h f bucket bodies w)

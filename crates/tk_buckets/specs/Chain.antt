@@ -1,9 +1,11 @@
 -- A bucket as the list of the places of its blocks, the first of its chain first.
-use Rattle.std.specs.Prelude.{◌≡◌, ◌⊎◌, ℕ, ◌+◌, ◌*◌, ◌≤◌, List, [], ◌∷◌, length, drop, Bool, Some, if◌then◌else◌, ◌==◌}
+use Rattle.std.specs.Prelude.{◌≡◌, ◌⊎◌, ℕ, ◌+◌, ◌*◌, ◌^◌, ◌≤◌, List, [], ◌∷◌, length, drop, Bool, Some, if◌then◌else◌, ◌==◌}
 use Rattle.std.specs.List.{list_any}
 use Rattle.tk_block.specs.Number.{u64_in}
 use Rattle.tk_block.specs.Text.{head_at, base_of}
 use Rattle.tk_block.specs.Blocks.{body_at, room_of}
+use Rattle.tk_block.specs.Grammar.{FitsBody}
+use Rattle.tk_block.specs.Layout.{Placed, is_in, laid, newest, links_of, texts}
 use Rattle.tk_block.specs.declared.block.Body.{Body}
 use Rattle.tk_block.specs.declared.head.StaticHead.{StaticHead}
 
@@ -63,3 +65,23 @@ cell_to cell place (q ∷ qs) = if q == place then cell else cell_to (q + 16) pl
 abbrev pub without : (place : ℕ) → List ℕ → List ℕ
 without place [] = []
 without place (q ∷ qs) = if q == place then qs else q ∷ without place qs
+
+abbrev pub place_step : (p bucket : ℕ) → List ℕ → Placed → List ℕ
+place_step p bucket found x = if x.body.kind == 4 then [] else (if is_in p bucket x.body then x.place ∷ found else found)
+
+-- the places of a bucket's blocks since the last clear, the newest first, in front of those that were found
+abbrev pub bucket_places : (p bucket : ℕ) → (found : List ℕ) → List Placed → List ℕ
+bucket_places p bucket found [] = found
+bucket_places p bucket found (x ∷ xs) = bucket_places p bucket (place_step p bucket found x) xs
+
+abbrev pub AllFitBody : List Body → Type 0
+AllFitBody [] = Unit {0}
+AllFitBody (b ∷ bs) = FitsBody b × AllFitBody bs
+
+-- the file has these blocks from the records' base on, each with its link, and the bucket's head is its newest block
+pub record IsWritten (h : StaticHead) (f : List ℕ) (bucket : ℕ) (bodies : List Body) : Type 0 where
+  pub size : length f ≤ 2 ^ 40
+  pub heads : base_of h.p ≤ length f
+  pub fit : AllFitBody bodies
+  pub blocks : drop (base_of h.p) f ≡ texts (laid (base_of h.p) bodies) (links_of h.p [] (laid (base_of h.p) bodies))
+  pub head : u64_in f (head_cell bucket) ≡ newest h.p bucket 0 (laid (base_of h.p) bodies)

@@ -1,10 +1,13 @@
-ghost use Rattle.std.specs.Prelude.{◌≡◌, ◌+◌, ◌*◌, ◌<◌, ◌≤◌, ◌^◌, List, ℕ, length, IfOk, IfSome};
+ghost use Rattle.std.specs.Prelude.{◌≡◌, ◌+◌, ◌*◌, ◌<◌, ◌≤◌, ◌^◌, List, [], ℕ, length, IfOk, IfSome};
 ghost use Rattle.tk_disk.specs.Crash.{Within};
 ghost use Rattle.tk_disk.specs.Disk.{HasFaultCause};
 ghost use Rattle.tk_store.specs.Store.{HasCause, NeverFull};
 ghost use Rattle.tk_block.specs.Number.{u64_in};
 ghost use Rattle.tk_block.specs.declared.head.StaticHead.{StaticHead};
-ghost use Rattle.tk_buckets.specs.Chain.{IsLinked, IsChain};
+ghost use Rattle.tk_block.specs.Text.{base_of};
+ghost use Rattle.tk_block.specs.Layout.{laid};
+ghost use Rattle.tk_block.specs.declared.block.Body.{Body};
+ghost use Rattle.tk_buckets.specs.Chain.{IsLinked, IsChain, IsWritten, bucket_places};
 
 use crate::read::number_at;
 use std::alloc::Global;
@@ -70,6 +73,8 @@ pub fn chain<D: Disk>(
     requires p { head.now.p ≤ 24 }
     requires bucket { bucket < 2 ^ head.now.p }
     ensures all { (places : List ℕ) → IfSome (D.image disk.old) (λ f. IsChain head.now f bucket places → IfOk result (λ l. l ≡ places)) }
+    ensures newest_first { (bodies : List Body) → IfSome (D.image disk.old) (λ f. IsWritten head.now f bucket bodies
+        → IfOk result (λ l. l ≡ bucket_places head.now.p bucket [] (laid (base_of head.now.p) bodies))) }
     ensures image { D.image disk.new ≡ D.image disk.old }
     ensures taken { (places : List ℕ) → IfSome (D.image disk.old) (λ f. IsChain head.now f bucket places → D.taken_count disk.new ≤ D.taken_count disk.old + 8 + 8 * length places) }
     ensures cause { HasCause (D.fault_count disk.old) (D.fault_count disk.new) result }
