@@ -1,11 +1,12 @@
 -- A group log, by the names that contracts call its parts.
-use Rattle.std.specs.Prelude.{◌≡◌, ℕ, ◌≤◌, List, Option, IfSome}
+use Rattle.std.specs.Prelude.{◌≡◌, ℕ, List, ◌++◌, take, drop, Option, IfSome}
 use Rattle.tk_model.specs.declared.record.Change.{Change}
 use Rattle.tk_model.specs.declared.record.Group.{Group}
 use Rattle.tk_model.specs.Records.{AllFit}
 use Rattle.tk_block.specs.Layout.{group_text, end_of, bodies_of}
-use Rattle.tk_block.specs.Text.{base_of}
+use Rattle.tk_block.specs.Text.{base_of, closing_text}
 use Rattle.tk_block.specs.declared.head.StaticHead.{StaticHead}
+use Rattle.tk_block.specs.declared.closing.Closing.{Closing}
 use Rattle.tk_append.specs.declared.log.GroupLog.{GroupLog}
 use Rattle.tk_append.specs.Log.{HasGroups}
 
@@ -18,6 +19,18 @@ log_head log = log.head
 -- where the next group goes
 abbrev pub log_end : {D : Type 0} → GroupLog D → ℕ
 log_end log = log.end
+
+-- the same log on another disk
+abbrev pub with_disk : {D : Type 0} → GroupLog D → D → GroupLog D
+with_disk log disk = record log { disk = disk }
+
+-- the file with this closing part
+abbrev pub with_closing : Closing → List ℕ → List ℕ
+with_closing c f = take 32 f ++ (closing_text c ++ drop 64 f)
+
+-- the closing part of a file that is open
+abbrev pub open_mark : Closing
+open_mark = record { size = 0; count = 0; next = 0 }
 
 -- a group of these changes, with these links, is ready for the end
 pub record IsReady {D : Type 0} (log : GroupLog D) (changes : List Change) (links : List ℕ) : Type 0 where

@@ -1,7 +1,23 @@
+ghost use Rattle.std.specs.Prelude.{◌≡◌, ◌+◌, ◌*◌, ◌<◌, ◌≤◌, ◌++◌, ◌∷◌, ◌^◌, [], ℕ, List, length, true, IfSome, OnOk, Some};
+ghost use Rattle.std.specs.Option.{is_some, option_map};
+ghost use Rattle.std.specs.Int.{w64, to_be_bytes};
+ghost use Rattle.std.specs.Borrow.{Lends, sem};
+ghost use Rattle.tk_disk.specs.Crash.{Torn, Follows, Within, Only};
+ghost use Rattle.tk_disk.specs.Disk.{put_at, HasCause};
+ghost use Rattle.tk_model.specs.declared.record.Change.{Change};
+ghost use Rattle.tk_model.specs.declared.record.Group.{Group};
+ghost use Rattle.tk_model.specs.Records.{AllFit};
+ghost use Rattle.tk_block.specs.Text.{base_of};
+ghost use Rattle.tk_block.specs.Blocks.{group_bodies};
+ghost use Rattle.tk_block.specs.Layout.{group_text, laid, end_of, links_of};
+ghost use Rattle.tk_append.specs.Log.{blocks_of};
+ghost use Rattle.tk_append.specs.contracts.log.GroupLog.{the_row};
+ghost use Rattle.tk_append.specs.LogParts.{log_disk, log_head, log_end, with_disk, with_closing, open_mark, IsReady, Stands};
+
 use std::alloc::Global;
-use tk_block::StaticHead;
-use tk_disk::Disk;
-use tk_model::Bytes;
+use tk_block::{Closing, LinkList, StaticHead, renumber, write_changes, write_closing};
+use tk_disk::{Disk, DiskError};
+use tk_model::{Bytes, ChangeList, NoMemory};
 
 /// A file that groups are added to, each by one write.
 pub struct GroupLog<D: Disk> {
@@ -12,9 +28,6 @@ pub struct GroupLog<D: Disk> {
 }
 
 impl<D: Disk> GroupLog<D> {
-    ghost use Rattle.std.specs.Prelude.{◌≡◌};
-    ghost use Rattle.tk_append.specs.LogParts.{log_disk, log_head, log_end};
-
     /// The log of a file with this header, whose groups end there.
     pub(crate) fn of(alloc: Global, disk: D, head: StaticHead, end: u64) -> GroupLog<D>
         ensures disk { log_disk result ≡ disk }
@@ -27,5 +40,165 @@ impl<D: Disk> GroupLog<D> {
             end,
             ready: Bytes::new(alloc),
         }
+    }
+
+    pub fn head(&self) -> &StaticHead
+        ensures { result.now ≡ log_head self.now }
+    {
+        &self.head
+    }
+
+    /// Where the next group goes.
+    pub fn end(&self) -> u64
+        ensures { result ≡ log_end self.now }
+    {
+        self.end
+    }
+
+    /// Lends the disk.
+    pub fn disk(&mut self) -> &mut D
+        ensures value { result.now ≡ log_disk self.old }
+        ensures* writes_back { sem 𝓛 (Lends (the_row D.row) D.row self.entry result (λ w. with_disk self.old w)) }
+    {
+        &mut self.disk
+    }
+
+    pub fn into_disk(self) -> D
+        ensures { result ≡ log_disk self }
+    {
+        let GroupLog {
+            disk,
+            head: _,
+            end: _,
+            ready: _,
+        } = self;
+        disk
+    }
+
+    /// Makes a group of these changes ready for the end, under any number.
+    #[tactic(auto, using(crate::proofs::LogSteps::fit_small))]
+    pub fn prepare(&mut self, changes: &ChangeList, links: &LinkList) -> Result<(), NoMemory>
+        requires fit { AllFit changes.now }
+        requires links { length links.now ≡ length changes.now }
+        requires end { end_of (log_end self.old) (group_bodies 0 changes.now) ≤ 2 ^ 40 }
+        ensures ready { OnOk result (IsReady self.new changes.now links.now) }
+        ensures disk { log_disk self.new ≡ log_disk self.old }
+        ensures head { log_head self.new ≡ log_head self.old }
+        ensures end { log_end self.new ≡ log_end self.old }
+    {
+        self.ready.clear();
+        write_changes(0, changes, self.end, links, &mut self.ready)
+    }
+
+    /// Adds the group that is ready, under this number, by one write.
+    pub fn append(&mut self, number: u64) -> Result<(), DiskError>
+        requires ready { (changes : List Change) × (links : List ℕ) × IsReady self.old changes links × (end_of (log_end self.old) (group_bodies number changes) ≤ 2 ^ 40) }
+        requires here { IfSome (D.image (log_disk self.old)) (λ f. length f ≡ log_end self.old) }
+        ensures written { (changes : List Change) (links : List ℕ) → IsReady self.old changes links
+            → OnOk result (D.image (log_disk self.new) ≡ option_map (λ f. f ++ group_text (record { number = number; changes = changes }) (log_end self.old) links) (D.image (log_disk self.old))) }
+        ensures end { (changes : List Change) (links : List ℕ) → IsReady self.old changes links
+            → OnOk result (log_end self.new ≡ end_of (log_end self.old) (group_bodies number changes)) }
+        ensures stands { (groups : List Group) (changes : List Change) (links : List ℕ) → Stands D.image self.old groups → IsReady self.old changes links
+            → links ≡ links_of (log_head self.old).p (blocks_of (log_head self.old) groups) (laid (log_end self.old) (group_bodies number changes))
+            → OnOk result (Stands D.image self.new (groups ++ record { number = number; changes = changes } ∷ [])) }
+        ensures head { log_head self.new ≡ log_head self.old }
+        ensures told { is_some (D.image (log_disk self.new)) ≡ is_some (D.image (log_disk self.old)) }
+        ensures taken { D.taken_count (log_disk self.new) ≡ D.taken_count (log_disk self.old) }
+        ensures cause { HasCause (D.fault_count (log_disk self.old)) (D.fault_count (log_disk self.new)) result }
+        ensures crash { (changes : List Change) (links : List ℕ) → IsReady self.old changes links
+            → Follows (Torn (log_end self.old) (length (group_text (record { number = number; changes = changes }) (log_end self.old) links))) (D.may_leave (log_disk self.old)) (D.may_leave (log_disk self.new)) }
+    {
+        renumber(&mut self.ready, self.end, number);
+        self.disk.write_at(self.end, self.ready.as_slice())?;
+        self.end += self.ready.len() as u64;
+        Ok(())
+    }
+
+    /// After a hard sync a crash leaves what a read gives.
+    pub fn sync_log(&mut self, hard: bool) -> Result<(), DiskError>
+        ensures image { OnOk result (D.image (log_disk self.new) ≡ D.image (log_disk self.old)) }
+        ensures stands { (groups : List Group) → Stands D.image self.old groups → OnOk result (Stands D.image self.new groups) }
+        ensures head { log_head self.new ≡ log_head self.old }
+        ensures end { log_end self.new ≡ log_end self.old }
+        ensures told { is_some (D.image (log_disk self.new)) ≡ is_some (D.image (log_disk self.old)) }
+        ensures taken { D.taken_count (log_disk self.new) ≡ D.taken_count (log_disk self.old) }
+        ensures cause { HasCause (D.fault_count (log_disk self.old)) (D.fault_count (log_disk self.new)) result }
+        ensures durable { hard ≡ true → OnOk result (IfSome (D.image (log_disk self.old)) (λ f. Only f (D.may_leave (log_disk self.new)))) }
+        ensures crash { Within (D.may_leave (log_disk self.old)) (D.may_leave (log_disk self.new)) }
+    {
+        self.disk.sync(hard)
+    }
+
+    /// Writes the closing part of the header.
+    fn put_closing(&mut self, closing: &Closing) -> Result<(), DiskError>
+        requires there { IfSome (D.image (log_disk self.old)) (λ f. 64 ≤ length f) }
+        ensures written { OnOk result (D.image (log_disk self.new) ≡ option_map (with_closing closing.now) (D.image (log_disk self.old))) }
+        ensures stands { (groups : List Group) → Stands D.image self.old groups → OnOk result (Stands D.image self.new groups) }
+        ensures head { log_head self.new ≡ log_head self.old }
+        ensures end { log_end self.new ≡ log_end self.old }
+        ensures told { is_some (D.image (log_disk self.new)) ≡ is_some (D.image (log_disk self.old)) }
+        ensures taken { D.taken_count (log_disk self.new) ≡ D.taken_count (log_disk self.old) }
+        ensures cause { HasCause (D.fault_count (log_disk self.old)) (D.fault_count (log_disk self.new)) result }
+        ensures crash { Follows (Torn 32 32) (D.may_leave (log_disk self.old)) (D.may_leave (log_disk self.new)) }
+    {
+        self.disk.write_at(32, &write_closing(closing))
+    }
+
+    /// Writes that the file is open, and makes that durable.
+    pub fn mark_open(&mut self) -> Result<(), DiskError>
+        requires there { IfSome (D.image (log_disk self.old)) (λ f. 64 ≤ length f) }
+        ensures written { OnOk result (D.image (log_disk self.new) ≡ option_map (with_closing open_mark) (D.image (log_disk self.old))) }
+        ensures stands { (groups : List Group) → Stands D.image self.old groups → OnOk result (Stands D.image self.new groups) }
+        ensures head { log_head self.new ≡ log_head self.old }
+        ensures end { log_end self.new ≡ log_end self.old }
+        ensures told { is_some (D.image (log_disk self.new)) ≡ is_some (D.image (log_disk self.old)) }
+        ensures taken { D.taken_count (log_disk self.new) ≡ D.taken_count (log_disk self.old) }
+        ensures cause { HasCause (D.fault_count (log_disk self.old)) (D.fault_count (log_disk self.new)) result }
+        ensures crash { Follows (Torn 32 32) (D.may_leave (log_disk self.old)) (D.may_leave (log_disk self.new)) }
+        ensures durable { OnOk result (IfSome (D.image (log_disk self.new)) (λ f. Only f (D.may_leave (log_disk self.new)))) }
+    {
+        let closing = Closing {
+            size: 0,
+            count: 0,
+            next: 0,
+        };
+        self.put_closing(&closing)?;
+        self.sync_log(true)
+    }
+
+    /// Makes all durable, and then that the file is closed with this count of records and this next number.
+    pub fn close_log(&mut self, count: u64, next: u64) -> Result<(), DiskError>
+        requires there { IfSome (D.image (log_disk self.old)) (λ f. 64 ≤ length f) }
+        ensures written { OnOk result (D.image (log_disk self.new) ≡ option_map (with_closing (record { size = log_end self.old; count = count; next = next })) (D.image (log_disk self.old))) }
+        ensures stands { (groups : List Group) → Stands D.image self.old groups → OnOk result (Stands D.image self.new groups) }
+        ensures head { log_head self.new ≡ log_head self.old }
+        ensures end { log_end self.new ≡ log_end self.old }
+        ensures told { is_some (D.image (log_disk self.new)) ≡ is_some (D.image (log_disk self.old)) }
+        ensures taken { D.taken_count (log_disk self.new) ≡ D.taken_count (log_disk self.old) }
+        ensures cause { HasCause (D.fault_count (log_disk self.old)) (D.fault_count (log_disk self.new)) result }
+        ensures crash { Follows (Torn 32 32) (D.may_leave (log_disk self.old)) (D.may_leave (log_disk self.new)) }
+        ensures durable { OnOk result (IfSome (D.image (log_disk self.new)) (λ f. Only f (D.may_leave (log_disk self.new)))) }
+    {
+        self.sync_log(true)?;
+        let size = self.end;
+        self.put_closing(&Closing { size, count, next })?;
+        self.sync_log(true)
+    }
+
+    /// Writes the place of a bucket's newest block.
+    pub fn set_head(&mut self, bucket: u64, place: u64) -> Result<(), DiskError>
+        requires p { (log_head self.old).p ≤ 24 }
+        requires bucket { bucket < 2 ^ (log_head self.old).p }
+        requires there { IfSome (D.image (log_disk self.old)) (λ f. base_of (log_head self.old).p ≤ length f) }
+        ensures written { OnOk result (D.image (log_disk self.new) ≡ option_map (put_at (64 + 8 * bucket) (to_be_bytes w64 place)) (D.image (log_disk self.old))) }
+        ensures stands { (groups : List Group) → Stands D.image self.old groups → OnOk result (Stands D.image self.new groups) }
+        ensures head { log_head self.new ≡ log_head self.old }
+        ensures end { log_end self.new ≡ log_end self.old }
+        ensures told { is_some (D.image (log_disk self.new)) ≡ is_some (D.image (log_disk self.old)) }
+        ensures taken { D.taken_count (log_disk self.new) ≡ D.taken_count (log_disk self.old) }
+        ensures cause { HasCause (D.fault_count (log_disk self.old)) (D.fault_count (log_disk self.new)) result }
+        ensures crash { Follows (Torn (64 + 8 * bucket) 8) (D.may_leave (log_disk self.old)) (D.may_leave (log_disk self.new)) }
+    {
+        self.disk.write_at(64 + 8 * bucket, &place.to_be_bytes())
     }
 }

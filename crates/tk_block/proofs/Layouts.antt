@@ -1,11 +1,11 @@
 -- Blocks that follow others: where they stand, their links and their text.
-use Rattle.std.proofs.Common.{◌≡◌, ℕ, zero, suc, ◌+◌, List, [], ◌∷◌, ◌++◌, length, drop, refl, sym, ◌∙◌, ap, arith, append_assoc}
+use Rattle.std.proofs.Common.{◌≡◌, ℕ, zero, suc, ◌+◌, Bool, cond, eqb, List, [], ◌∷◌, ◌++◌, length, drop, refl, sym, ◌∙◌, ap, arith, append_assoc}
 use Rattle.std.proofs.lemmas.List.{append-nil}
 use Rattle.tk_model.specs.declared.record.Change.{Change}
 use Rattle.tk_model.specs.declared.record.Group.{Group}
 use Rattle.tk_block.specs.declared.block.Body.{Body}
 use Rattle.tk_block.specs.Blocks.{extent_of, body_of, block_text, group_bodies, is_nil}
-use Rattle.tk_block.specs.Layout.{Placed, laid, end_of, renewed, newest, link_of, links_of, texts, first_or_none, bodies_of}
+use Rattle.tk_block.specs.Layout.{Placed, bucket_in, laid, end_of, renewed, newest, link_of, links_of, texts, first_or_none, bodies_of}
 
 pub end_of-append : (place : ℕ) (xs ys : List Body) → end_of place (xs ++ ys) ≡ end_of (end_of place xs) ys
 end_of-append place [] ys = refl
@@ -63,3 +63,22 @@ length-group_bodies number (c ∷ cs) = ap suc (length-group_bodies number cs)
 pub end_of-renumbered : (place old new : ℕ) (cs : List Change) → end_of place (group_bodies old cs) ≡ end_of place (group_bodies new cs)
 end_of-renumbered place old new [] = refl
 end_of-renumbered place old new (c ∷ cs) = end_of-renumbered (place + extent_of (body_of new c (is_nil cs))) old new cs
+
+newest-step : (p bucket : ℕ) (before other : List Placed) (place old new : ℕ) (c : Change) (last : Bool) → newest p bucket 0 before ≡ newest p bucket 0 other
+    → newest p bucket 0 (before ++ record { place = place; body = body_of old c last } ∷ []) ≡ newest p bucket 0 (other ++ record { place = place; body = body_of new c last } ∷ [])
+newest-step p bucket before other place old new c last same =
+    newest-append p bucket 0 before (record { place = place; body = body_of old c last } ∷ [])
+    ∙ ap (λ (n : ℕ). renewed p bucket n (record { place = place; body = body_of old c last })) same
+    ∙ sym (newest-append p bucket 0 other (record { place = place; body = body_of new c last } ∷ []))
+
+-- a group has the same links under each number
+pub links_of-renumbered : (p : ℕ) (before other : List Placed) (place old new : ℕ) (cs : List Change) → ((bucket : ℕ) → newest p bucket 0 before ≡ newest p bucket 0 other)
+    → links_of p before (laid place (group_bodies old cs)) ≡ links_of p other (laid place (group_bodies new cs))
+links_of-renumbered p before other place old new [] same = refl
+links_of-renumbered p before other place old new (c ∷ cs) same =
+    let one = body_of old c (is_nil cs) in
+    let two = body_of new c (is_nil cs) in
+    ap (λ (n : ℕ). cond (eqb one.kind 4) 0 n ∷ links_of p (before ++ record { place = place; body = one } ∷ []) (laid (place + extent_of one) (group_bodies old cs))) (same (bucket_in p one.key))
+    ∙ ap (λ (l : List ℕ). link_of p other two ∷ l)
+    (links_of-renumbered p (before ++ record { place = place; body = one } ∷ []) (other ++ record { place = place; body = two } ∷ []) (place + extent_of one) old new cs
+    (λ bucket. newest-step p bucket before other place old new c (is_nil cs) (same bucket)))

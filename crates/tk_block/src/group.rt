@@ -1,12 +1,12 @@
 ghost use Rattle.std.specs.Prelude.{◌≡◌, ◌≤◌, ◌<◌, ◌^◌, ◌+◌, ◌++◌, length, OnOk, OnErr};
 ghost use Rattle.std.specs.Io.{StartsWith};
 ghost use Rattle.tk_block.specs.Blocks.{AllSmall, group_bodies, kind_of, key_of, value_of};
-ghost use Rattle.tk_block.specs.Layout.{group_text, end_of};
+ghost use Rattle.tk_block.specs.Layout.{group_text, laid, end_of, texts};
 ghost use Rattle.tk_block.specs.Renumber.{IsGroupText, Renumbered, IsBlockIn, RenumberedBlock};
 
 use crate::block::{Block, check, extent_of, write_block};
 use crate::number::{u16_at, u32_at, u64_at};
-use tk_model::{Bytes, Change, Group, ListOf, NoMemory};
+use tk_model::{Bytes, Change, ChangeList, Group, ListOf, NoMemory};
 
 /// A place for each change: that of the block before it in its bucket's chain, or 0.
 pub type LinkList = ListOf<u64>;
@@ -33,6 +33,30 @@ fn block_of(change: &Change, number: u64, last: bool) -> Block<'_>
     }
 }
 
+/// Puts the text of a group of these changes, for a place, at the end.
+pub fn write_changes(
+    number: u64,
+    changes: &ChangeList,
+    place: u64,
+    links: &LinkList,
+    out: &mut Bytes,
+) -> Result<(), NoMemory>
+    requires small { AllSmall changes.now }
+    requires links { length links.now ≡ length changes.now }
+    requires end { end_of place (group_bodies number changes.now) ≤ 2 ^ 40 }
+    ensures ok { OnOk result (out.new ≡ out.old ++ texts (laid place (group_bodies number changes.now)) links.now) }
+    ensures err { OnErr result (StartsWith out.new out.old) }
+{
+    let count = changes.len();
+    let mut at = place;
+    for (i, change) in changes.as_slice().iter().enumerate() {
+        let block = block_of(change, number, i + 1 == count);
+        write_block(block, at, *links.at(i), out)?;
+        at += extent_of(block.key.len(), block.value.len());
+    }
+    Ok(())
+}
+
 /// Puts the group's text for a place at the end.
 pub fn write_group(g: &Group, place: u64, links: &LinkList, out: &mut Bytes) -> Result<(), NoMemory>
     requires small { AllSmall g.now.changes }
@@ -41,14 +65,7 @@ pub fn write_group(g: &Group, place: u64, links: &LinkList, out: &mut Bytes) -> 
     ensures ok { OnOk result (out.new ≡ out.old ++ group_text g.now place links.now) }
     ensures err { OnErr result (StartsWith out.new out.old) }
 {
-    let count = g.changes.len();
-    let mut at = place;
-    for (i, change) in g.changes.as_slice().iter().enumerate() {
-        let block = block_of(change, g.number, i + 1 == count);
-        write_block(block, at, *links.at(i), out)?;
-        at += extent_of(block.key.len(), block.value.len());
-    }
-    Ok(())
+    write_changes(g.number, &g.changes, place, links, out)
 }
 
 /// Renumbers the block at an index, and gives its length.

@@ -1,0 +1,54 @@
+use Rattle.std.proofs.Common.{ℕ, ◌+◌, List, length, sym, ◌∙◌, ap, subst, arith}
+use Rattle.tk_disk.specs.Crash.{Torn, Follows}
+use Rattle.tk_block.specs.Blocks.{group_bodies}
+use Rattle.tk_block.specs.Layout.{end_of}
+use Rattle.tk_append.proofs.LogSteps.{ready_text, text_is, end_is, written_end, end_more, there_more}
+use Rattle.tk_append.proofs.log.GroupLog.append.Goals as goal
+
+pub renumber-requires : goal.renumber-requires
+renumber-requires g c =
+    let r = c.requires.ready in
+    ready_text c.args.self.now.ready c.args.self.now.end r.2.number c.args.number r.0 r.1 r.2.fit r.2.text r.3
+
+pub write_at-requires-clause-end : goal.write_at-requires-clause-end
+write_at-requires-clause-end g c =
+    let r = c.requires.ready in
+    omega (arith, end_is c.args.self.now.end c.args.number c.as_slice.result.now r.0 r.1 (c.as_slice.ensures ∙ text_is c.args.self.now c.args.number _ r.0 r.1 r.2 c.renumber.ensures), r.3)
+
+pub overflow_add-self : goal.overflow_add-self
+overflow_add-self g c =
+    let r = c.requires.ready in
+    omega (arith, end_is c.args.self.now.end c.args.number c.renumber.new.text r.0 r.1 (text_is c.args.self.now c.args.number _ r.0 r.1 r.2 c.renumber.ensures), c.len.ensures, r.3)
+
+pub returns-clause-written : goal.returns-clause-written
+returns-clause-written g c = λ cs links ready.
+    written_end (g.D.Disk.image c.args.self.now.disk) _ c.args.self.now.end c.as_slice.result.now _ c.requires.here
+    (c.as_slice.ensures ∙ text_is c.args.self.now c.args.number _ cs links ready c.renumber.ensures) c.in_ok-write_at.ensures.written
+
+pub returns-clause-end : goal.returns-clause-end
+returns-clause-end g c = λ cs links ready.
+    ap (λ (n : ℕ). c.args.self.now.end + n) c.len.ensures ∙ end_is c.args.self.now.end c.args.number c.renumber.new.text cs links (text_is c.args.self.now c.args.number _ cs links ready c.renumber.ensures)
+
+pub returns-clause-stands : goal.returns-clause-stands
+returns-clause-stands g c = λ groups cs links stands ready linked.
+    let text = text_is c.args.self.now c.args.number _ cs links ready c.renumber.ensures in
+    record {
+      end_is =
+          ap (λ (n : ℕ). c.args.self.now.end + n) c.len.ensures
+          ∙ end_is c.args.self.now.end c.args.number c.renumber.new.text cs links text
+          ∙ ap (λ (n : ℕ). end_of n (group_bodies c.args.number cs)) stands.end_is
+          ∙ sym (end_more _ groups (record { number = c.args.number; changes = cs }));
+      there =
+          there_more (g.D.Disk.image c.args.self.now.disk) _ c.args.self.now.head groups (record { number = c.args.number; changes = cs }) c.args.self.now.end links stands.end_is linked stands.there
+          (written_end (g.D.Disk.image c.args.self.now.disk) _ c.args.self.now.end c.as_slice.result.now _ c.requires.here (c.as_slice.ensures ∙ text) c.in_ok-write_at.ensures.written);
+    }
+
+pub returns-in_err-write_at-clause-crash : goal.returns-in_err-write_at-clause-crash
+returns-in_err-write_at-clause-crash g c = λ cs links ready.
+    subst (λ (l : List ℕ). Follows (Torn c.args.self.now.end (length l)) (g.D.Disk.may_leave c.args.self.now.disk) (g.D.Disk.may_leave c.write_at.new.self))
+    (c.as_slice.ensures ∙ text_is c.args.self.now c.args.number _ cs links ready c.renumber.ensures) c.write_at.ensures.crash
+
+pub returns-clause-crash : goal.returns-clause-crash
+returns-clause-crash g c = λ cs links ready.
+    subst (λ (l : List ℕ). Follows (Torn c.args.self.now.end (length l)) (g.D.Disk.may_leave c.args.self.now.disk) (g.D.Disk.may_leave c.write_at.new.self))
+    (c.as_slice.ensures ∙ text_is c.args.self.now c.args.number _ cs links ready c.renumber.ensures) c.write_at.ensures.crash
