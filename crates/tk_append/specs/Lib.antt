@@ -1,6 +1,7 @@
 pub mod Chains
 pub mod Checked
 pub mod Fresh
+pub mod Hashed
 pub mod Log
 pub mod LogParts
 pub mod Opening

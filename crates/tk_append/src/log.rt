@@ -55,6 +55,20 @@ impl<D: Disk> GroupLog<D> {
         self.end
     }
 
+    /// How often a call of the disk has failed.
+    pub fn faults(&self) -> u64
+        ensures { result ≡ D.fault_count (log_disk self.now) }
+    {
+        self.disk.faults()
+    }
+
+    /// How many bytes reads of the disk have given.
+    pub fn taken(&self) -> u64
+        ensures { result ≡ D.taken_count (log_disk self.now) }
+    {
+        self.disk.taken()
+    }
+
     /// Lends the disk.
     pub fn disk(&mut self) -> &mut D
         ensures value { result.now ≡ log_disk self.old }
@@ -200,5 +214,20 @@ impl<D: Disk> GroupLog<D> {
         ensures crash { Follows (Torn (64 + 8 * bucket) 8) (D.may_leave (log_disk self.old)) (D.may_leave (log_disk self.new)) }
     {
         self.disk.write_at(64 + 8 * bucket, &place.to_be_bytes())
+    }
+
+    /// Writes the newest block's place of each bucket.
+    pub fn set_heads(&mut self, text: &[u8]) -> Result<(), DiskError>
+        requires p { (log_head self.old).p ≤ 24 }
+        requires text { 64 + length text.now ≡ base_of (log_head self.old).p }
+        requires there { IfSome (D.image (log_disk self.old)) (λ f. base_of (log_head self.old).p ≤ length f) }
+        ensures written { OnOk result (D.image (log_disk self.new) ≡ option_map (put_at 64 text.now) (D.image (log_disk self.old))) }
+        ensures head { log_head self.new ≡ log_head self.old }
+        ensures end { log_end self.new ≡ log_end self.old }
+        ensures told { is_some (D.image (log_disk self.new)) ≡ is_some (D.image (log_disk self.old)) }
+        ensures taken { D.taken_count (log_disk self.new) ≡ D.taken_count (log_disk self.old) }
+        ensures cause { HasCause (D.fault_count (log_disk self.old)) (D.fault_count (log_disk self.new)) result }
+    {
+        self.disk.write_at(64, text)
     }
 }

@@ -1,5 +1,7 @@
 -- The ends of commands.
-use Rattle.std.specs.Prelude.{ℕ}
+use Rattle.std.specs.Prelude.{ℕ, ◌==◌, if◌then◌else◌}
+use Rattle.tk_status.specs.Statuses.{number_of}
+use Rattle.tk_status.specs.declared.Status.{Status}
 use Rattle.tk_status.specs.declared.finish.Finish.{Finish}
 
 -- ended with this status and nothing more to tell
@@ -9,3 +11,11 @@ ended status = record { status = status; line = 0; file = 0; place = 0; answer =
 -- a file was refused at a place
 abbrev pub refused_at : (file place : ℕ) → Finish
 refused_at file place = record { status = 3; line = 0; file = file; place = place; answer = 0 }
+
+-- a call answered the status of this number, which is not success
+abbrev pub answered : (answer : ℕ) → Finish
+answered answer = record { status = 6; line = 0; file = 0; place = 0; answer = answer }
+
+-- a call ended with a status
+abbrev pub ended_by : Status → Finish
+ended_by s = if number_of s == 0 then ended 0 else answered (number_of s)

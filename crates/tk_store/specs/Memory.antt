@@ -1,5 +1,5 @@
 -- A store in memory, as its trait's members see it.
-use Rattle.std.specs.Prelude.{◌≡◌, ℕ, ◌+◌, ◌-◌, ◌≤◌, ◌^◌, min, false, not, List, length, Option, Some, None}
+use Rattle.std.specs.Prelude.{◌≡◌, ℕ, ◌+◌, ◌-◌, ◌≤◌, ◌^◌, min, false, not, List, [], length, Option, Some, None}
 use Rattle.tk_model.specs.declared.record.Group.{Group}
 use Rattle.tk_model.specs.declared.record.Change.{Change}
 use Rattle.tk_model.specs.Records.{after, replay, Rising, AllFit, AllHeld}
@@ -11,7 +11,7 @@ floor_of None = 0
 floor_of (Some n) = n + 1
 
 abbrev pub mem_nature : MemStore → Nature
-mem_nature s = record { order = s.order; limit = min s.room (2 ^ 40); next = 0; writable = s.writable; marks = false; extents = None; log = None }
+mem_nature s = record { order = s.order; limit = min s.room (2 ^ 40); next = 0; writable = s.writable; marks = false; extents = None; header = []; log = None }
 
 -- the store counts records
 abbrev pub mem_shown : MemStore → Shown

@@ -21,6 +21,8 @@ pub record Nature : Type 0 where
   pub marks : Bool
   -- the file's version, where the store counts by extents
   pub extents : Option ℕ
+  -- the bytes at the front of the store's file that no call changes, where it has any
+  pub header : List ℕ
   -- the bytes that a list of changes takes in the store's log, where it has one
   pub log : Option (List Change → ℕ)
 
