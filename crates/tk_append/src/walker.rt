@@ -256,7 +256,7 @@ impl Walker {
         ensures walked { (w : Walk) (next : ℕ) → IsAt p place self.old w → IsOfKind (said found.now.block) → place < next
             → OnOk result (IsAt p next self.new (walked w (record { place = place; body = said found.now.block }))) }
     {
-        self.records.apply(alloc, change_of(alloc, found.block)?)?;
+        self.records.apply(change_of(alloc, found.block)?)?;
         self.turn_heads(p, place, found);
         self.turn_group(place, found.block);
         Ok(())
