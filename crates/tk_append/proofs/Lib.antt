@@ -1,9 +1,17 @@
 pub mod Bounds
 pub mod ChainsSteps
+pub mod Checked
+pub mod ClosedFiles
 pub mod FreshSteps
+pub mod Groupings
 pub mod Joined
 pub mod Layouts
 pub mod LogSteps
+pub mod NewestHeads
 pub mod PiecesSteps
 pub mod PlanLoop
 pub mod PlanSteps
+pub mod Readings
+pub mod Reopened
+pub mod WalkerSteps
+pub mod Walks

@@ -1,7 +1,11 @@
 pub mod Chains
+pub mod Checked
 pub mod Fresh
 pub mod Hashed
 pub mod Log
 pub mod LogParts
 pub mod Opening
+pub mod OpeningLaws
 pub mod Pieces
+pub mod Read
+pub mod Walked

@@ -1,5 +1,8 @@
 -- Files as lists of groups.
 use Rattle.std.specs.Prelude.{◌≡◌, ◌≢◌, ℕ, ◌+◌, ◌≤◌, List, [], ◌∷◌, length, drop, true, Result, Ok, Err, Option, Some, None}
+use Rattle.tk_model.specs.Entries.{is_in_shard}
+use Rattle.tk_model.specs.declared.record.ShardOf.{ShardOf}
+use Rattle.tk_model.specs.declared.record.Change.{Change}
 use Rattle.tk_model.specs.Records.{replay, AllFit, IsClearAlone}
 use Rattle.tk_model.specs.declared.record.Order.TheVariants.{Hash}
 use Rattle.tk_model.specs.declared.record.Pair.{Pair}
@@ -16,6 +19,15 @@ use Rattle.tk_append.specs.Chains.{HeadsAre}
 abbrev pub AreGroups : (least next : ℕ) → List Group → Type 0
 AreGroups least next [] = least ≤ next
 AreGroups least next (g ∷ gs) = (least ≤ g.number) × (g.changes ≢ []) × AllFit g.changes × IsClearAlone g.changes × AreGroups (g.number + 1) next gs
+
+-- each change concerns this shard
+abbrev pub AllIn : ShardOf → List Change → Type 0
+AllIn shard [] = Unit {0}
+AllIn shard (c ∷ cs) = (is_in_shard shard c ≡ true) × AllIn shard cs
+
+abbrev pub AllHome : ShardOf → List Group → Type 0
+AllHome shard [] = Unit {0}
+AllHome shard (g ∷ gs) = AllIn shard g.changes × AllHome shard gs
 
 -- the blocks of groups in a file of this header
 abbrev pub blocks_of : StaticHead → List Group → List Placed

@@ -25,10 +25,10 @@ pub record Walk : Type 0 where
   -- the least number that the next group may have
   pub least : ℕ
   -- the first block of the group that is not complete
-  pub unfinished : Option Placed
+  pub open_group : Option Placed
 
 abbrev pub begin : Walk
-begin = record { blocks = []; least = 0; unfinished = None }
+begin = record { blocks = []; least = 0; open_group = None }
 
 -- all blocks of a group have its number, which is above that of the group before; a clear is alone in its group
 abbrev pub is_in_turn : (least : ℕ) → Option Placed → Body → Bool
@@ -46,7 +46,7 @@ is_padded bytes e b = bytes_eq (take (e - room_of b) (drop (room_of b) bytes)) (
 -- a block with this extent and body may stand at the front of these bytes: it lies within them, has the least extent, a kind, zero padding, its turn and its shard
 abbrev pub may_stand : StaticHead → ShardOf → Walk → (bytes : List ℕ) → (extent : ℕ) → Body → Bool
 may_stand h shard w bytes e b =
-    nat_le e (length bytes) && (e == extent_of b) && not (b.kind == 3) && is_padded bytes e b && is_in_turn w.least w.unfinished b && is_home h shard b
+    nat_le e (length bytes) && (e == extent_of b) && not (b.kind == 3) && is_padded bytes e b && is_in_turn w.least w.open_group b && is_home h shard b
 
 abbrev pub opened_by : Option Placed → Placed → Option Placed
 opened_by None x = if x.body.last then None else Some x
@@ -54,7 +54,7 @@ opened_by (Some first) x = if x.body.last then None else Some first
 
 -- one block more
 abbrev pub walked : Walk → Placed → Walk
-walked w x = record { blocks = w.blocks ++ x ∷ []; least = if x.body.last then x.body.number + 1 else w.least; unfinished = opened_by w.unfinished x }
+walked w x = record { blocks = w.blocks ++ x ∷ []; least = if x.body.last then x.body.number + 1 else w.least; open_group = opened_by w.open_group x }
 
 -- how a walk ends: a place fails, or all blocks were walked over
 pub data Outcome : Type 0 where
@@ -117,7 +117,7 @@ place_in (Some x) = Some x.place
 -- behind the blocks: the last group is complete, the heads are right, and the closing part fits
 abbrev pub end_fault : (writable : Bool) → StaticHead → Closing → (f : List ℕ) → Outcome → Option OpenError
 end_fault writable h c f (FailsAt place) = Some (BrokenAt place)
-end_fault writable h c f (Ends w) = broken_at (place_in w.unfinished) (broken_at (head_fault h.p w.blocks f (2 ^ h.p) 0) (count_fault writable c w))
+end_fault writable h c f (Ends w) = broken_at (place_in w.open_group) (broken_at (head_fault h.p w.blocks f (2 ^ h.p) 0) (count_fault writable c w))
 
 -- the closing part, then the blocks
 abbrev pub closing_fault : (writable : Bool) → StaticHead → ShardOf → (f : List ℕ) → Option Closing → Option OpenError

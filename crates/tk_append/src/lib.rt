@@ -3,15 +3,19 @@
 
 mod blocks;
 mod chains;
+mod check;
 mod fresh;
 mod hashed;
+mod law;
 mod log;
 mod pieces;
 mod plan;
 mod read;
+mod walker;
 
 pub use fresh::write_fresh;
 pub use hashed::HashedRecords;
+pub use law::closed_files_open;
 pub use log::GroupLog;
 pub use plan::{Plan, extent_of_change, plan_group};
 pub use read::{ReadLog, read_log};

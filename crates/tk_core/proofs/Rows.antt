@@ -74,22 +74,22 @@ pub not_true : (b : Bool) → not b ≡ true → b ≡ false
 not_true true e = absurd (cc e)
 not_true false e = refl
 
-set_hit : {A : Type 0} (xs : List A) (i : ℕ) (a d : A) → i < length xs → get_or (set xs i a) i d ≡ a
+pub set_hit : {A : Type 0} (xs : List A) (i : ℕ) (a d : A) → i < length xs → get_or (set xs i a) i d ≡ a
 set_hit [] i a d h = absurd (omega arith)
 set_hit (x ∷ xs) zero a d h = refl
 set_hit (x ∷ xs) (suc i) a d h = set_hit xs i a d (omega arith)
 
-set_miss : {A : Type 0} (xs : List A) (i z : ℕ) (a d : A) → z ≢ i → get_or (set xs i a) z d ≡ get_or xs z d
+pub set_miss : {A : Type 0} (xs : List A) (i z : ℕ) (a d : A) → z ≢ i → get_or (set xs i a) z d ≡ get_or xs z d
 set_miss [] i z a d ne = refl
 set_miss (x ∷ xs) zero zero a d ne = absurd (ne refl)
 set_miss (x ∷ xs) zero (suc z) a d ne = refl
 set_miss (x ∷ xs) (suc i) zero a d ne = refl
 set_miss (x ∷ xs) (suc i) (suc z) a d ne = set_miss xs i z a d (λ e. ne (ap suc e))
 
-put_set : {A : Type 0} (xs : List A) (i : ℕ) (a d : A) → i < length xs → (z : ℕ) → get_or (set xs i a) z d ≡ put (λ y. get_or xs y d) i a z
+pub put_set : {A : Type 0} (xs : List A) (i : ℕ) (a d : A) → i < length xs → (z : ℕ) → get_or (set xs i a) z d ≡ put (λ y. get_or xs y d) i a z
 put_set xs i a d h z = by_test z i (λ b. get_or (set xs i a) z d ≡ cond b a (get_or xs z d)) (λ e. subst (λ y. get_or (set xs i a) y d ≡ a) (sym e) (set_hit xs i a d h)) (λ ne. set_miss xs i z a d ne)
 
-set_again : {A : Type 0} (l : List A) (i : ℕ) (a : A) → get_elem? l i ≡ some a → set l i a ≡ l
+pub set_again : {A : Type 0} (l : List A) (i : ℕ) (a : A) → get_elem? l i ≡ some a → set l i a ≡ l
 set_again [] i a e = refl
 set_again (x ∷ xs) zero a e = λ k. sym (some-injective x a e) k ∷ xs
 set_again (x ∷ xs) (suc i) a e = λ k. x ∷ set_again xs i a e k
@@ -107,7 +107,7 @@ keeps x c d is same o s a steps =
     subst IsCore (λ t. record { frame = sym same t; log = d.log; owners = d.owners; spoilt = d.spoilt; away = d.away; callers = d.callers })
     (record { sound = step c.frame (state_of c) (state_of d) is.sound x steps; owners = o ∙ is.owners; spoilt = s ∙ is.spoilt; away = a ∙ is.away })
 
-abbrev AnyRow : List Entry → List Row → ℕ → (Caller → Type 0) → Type 0
+abbrev pub AnyRow : List Entry → List Row → ℕ → (Caller → Type 0) → Type 0
 AnyRow log rows i P = (v : Caller) × (get_elem? (map (caller_of log) rows) i ≡ some v) × P v
 
 module _ (log : List Entry) (rows : List Row) (i : ℕ) where
@@ -142,10 +142,10 @@ module _ (f : Frame) (log : List Entry) (owners : List ℕ) (spoilt away : List 
   abbrev pub core : List ℕ → List Bool → List Bool → List Row → CoreState
   core os s a rs = record { frame = f; log = log; owners = os; spoilt = s; away = a; callers = map (caller_of log) rs }
 
-  at_row : (P : Caller → Type 0) → AnyRow log rows i P → get_elem? (map (caller_of log) rows) i ≡ some (caller_of log row)
+  pub at_row : (P : Caller → Type 0) → AnyRow log rows i P → get_elem? (map (caller_of log) rows) i ≡ some (caller_of log row)
   at_row P a = there log rows i row (in_map (caller_of log) rows i a.0 a.1) is
 
-  need : (P : Caller → Type 0) → AnyRow log rows i P → P (caller_of log row)
+  pub need : (P : Caller → Type 0) → AnyRow log rows i P → P (caller_of log row)
   need P a = of_row log rows i row (in_map (caller_of log) rows i a.0 a.1) is P a
 
   -- only the row changes
@@ -153,10 +153,10 @@ module _ (f : Frame) (log : List Entry) (owners : List ℕ) (spoilt away : List 
   one_state v e = λ t. record { law = λ m. true; first = []; log = log; owner = λ l. get_or owners l 0; spoilt = λ q. get_or spoilt q false; away = λ q. get_or away q false; stands = λ q gs n. true; callers = one_map (caller_of log) rows i new v e t }
 
   module _ (old : CoreState) (view : core owners spoilt away rows ≡ old) (ok : IsCore (core owners spoilt away rows)) where
-    one_done : (x : Move) (d : CoreState) → IsDone x (core owners spoilt away rows) d → IsDone x old d
+    pub one_done : (x : Move) (d : CoreState) → IsDone x (core owners spoilt away rows) d → IsDone x old d
     one_done x d = subst (λ (s : CoreState). IsDone x s d) view
 
-    from_view : (P : CoreState → Type 0) → P old → P (core owners spoilt away rows)
+    pub from_view : (P : CoreState → Type 0) → P old → P (core owners spoilt away rows)
     from_view P = subst P (sym view)
 
     pub look_done : AnyCaller old i MayLook → caller_of log new ≡ looked log (caller_of log row) → IsDone (moves.Look i) old (core owners spoilt away (set rows i new))

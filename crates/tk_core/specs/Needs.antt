@@ -57,6 +57,10 @@ pub record MayGiveStore (f : Frame) (i : ℕ) (v : Caller) : Type 0 where
   pub holds : has (store_lock f i) v.held ≡ true
   pub home : has i v.out ≡ false
 
+-- give, of a lock
+abbrev pub MayGive : Frame → ℕ → Caller → Type 0
+MayGive f l v = (l < f.stripes → MayGiveStripe f l v) × ((i : ℕ) → l ≡ store_lock f i → MayGiveStore f i v)
+
 -- look
 abbrev pub MayLook : Caller → Type 0
 MayLook v = v.live ≡ true
@@ -81,6 +85,10 @@ pub record MaySplit (callers : ℕ) (v : Caller) : Type 0 where
   pub few : callers < 2 ^ 32
   pub live : v.live ≡ true
   pub held : v.held ≡ []
+
+-- a live caller that holds no lock
+abbrev pub IsIdle : Caller → Type 0
+IsIdle v = (v.live ≡ true) × (v.held ≡ [])
 
 -- join: of two callers, and neither holds a lock
 pub record MayJoin (i j : ℕ) (v u : Caller) : Type 0 where

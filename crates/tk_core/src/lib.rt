@@ -3,6 +3,7 @@
 
 mod frame;
 mod law;
+mod locking;
 mod machine;
 mod moves;
 mod steps;

@@ -28,7 +28,7 @@ pub(crate) struct Row {
 pub struct Core {
     pub(crate) frame: Frame,
     pub(crate) log: Vec<Entry>,
-    pub(crate) owners: Vec<u32>,
+    pub(crate) owners: Vec<u64>,
     pub(crate) spoilt: Vec<bool>,
     pub(crate) away: Vec<bool>,
     pub(crate) rows: Vec<Row>,

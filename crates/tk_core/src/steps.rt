@@ -150,14 +150,14 @@ impl Core {
 }
 
 /// Whether the number stands in the list.
-fn holds(list: &[u32], number: u32) -> bool
+pub(crate) fn holds(list: &[u32], number: u32) -> bool
     ensures { result ≡ has number list.now }
 {
     list.contains(&number)
 }
 
 /// Whether the lock is greater than each of these.
-fn is_above(lock: u32, held: &[u32]) -> bool
+pub(crate) fn is_above(lock: u32, held: &[u32]) -> bool
     ensures { Decides result (AllBelow lock held.now) }
 {
     for other in held.iter() {

@@ -1,0 +1,63 @@
+-- The log of a file that was read has its groups.
+use Rattle.std.proofs.Common.{◌≡◌, ℕ, List, [], ◌++◌, length, drop, sym, ◌∙◌, ap, subst, arith, append_assoc}
+use Rattle.std.specs.Prelude.{Bool, Option, Some, None, IfSome}
+use Rattle.std.proofs.lemmas.List.{drop_at, length-append}
+use Rattle.tk_model.specs.declared.record.Group.{Group}
+use Rattle.tk_model.specs.declared.record.ShardOf.{ShardOf}
+use Rattle.tk_block.specs.declared.head.StaticHead.{StaticHead}
+use Rattle.tk_block.specs.declared.closing.Closing.{Closing}
+use Rattle.tk_block.specs.Text.{static_text, closing_text, base_of}
+use Rattle.tk_block.specs.Layout.{end_of, bodies_of, heads_text, texts, links_of, file_text}
+use Rattle.tk_block.proofs.Grammar.{length-static_text, length-closing_text}
+use Rattle.tk_block.proofs.Lengths.{length-heads_text, length-file_text}
+use Rattle.tk_append.specs.Log.{HasGroups, IsRead, AllHome, blocks_of, closed_text}
+use Rattle.tk_append.specs.LogParts.{Stands, log_disk, log_head, log_end}
+use Rattle.tk_append.specs.Read.{IsClosedOn, HasRead}
+use Rattle.tk_append.specs.declared.check.Found.{Found}
+use Rattle.tk_append.specs.declared.log.GroupLog.{GroupLog}
+
+-- the blocks of a whole file
+pub file_blocks : (h : StaticHead) (groups : List Group) (count next : ℕ) → drop (base_of h.p) (file_text h groups count next) ≡ texts (blocks_of h groups) (links_of h.p [] (blocks_of h groups))
+unfolding file_text
+file_blocks h groups count next =
+    let c : Closing = record { size = end_of (base_of h.p) (bodies_of groups); count = count; next = next } in
+    let heads = heads_text h.p (blocks_of h groups) in
+    let rest = texts (blocks_of h groups) (links_of h.p [] (blocks_of h groups)) in
+    ap (λ (l : List ℕ). drop (base_of h.p) l) (sym (append_assoc (static_text h ++ closing_text c) heads rest))
+    ∙ drop_at ((static_text h ++ closing_text c) ++ heads) rest (base_of h.p)
+    (omega (arith, length-append (static_text h ++ closing_text c) heads, length-append (static_text h) (closing_text c), length-static_text h, length-closing_text c, length-heads_text h.p (blocks_of h groups)))
+
+-- a closed file has its groups
+pub closed_groups : (h : StaticHead) (groups : List Group) (next : ℕ) (f : List ℕ) → f ≡ closed_text h groups next → HasGroups h groups f
+closed_groups h groups next f is = record {
+  size = ap length is ∙ length-file_text h groups _ next;
+  blocks = ap (λ (l : List ℕ). drop (base_of h.p) l) is ∙ file_blocks h groups _ next;
+}
+
+if_some : (o : Option (List ℕ)) (P Q : List ℕ → Type 0) → IfSome o P → ((f : List ℕ) → P f → Q f) → IfSome o Q
+if_some None P Q holds more = tt
+if_some (Some f) P Q holds more = more f holds
+
+pub log_stands : {D : Type 0} (image : D → Option (List ℕ)) (old : Option (List ℕ)) (log : GroupLog D) (kinds : List ℕ) (writable : Bool) (shard : ShardOf) (found : Found) (is : IsClosedOn old kinds writable shard found)
+    → log_head log ≡ found.head → log_end log ≡ found.closing.size → image (log_disk log) ≡ old → Stands image log is.closed.groups
+log_stands image old log kinds writable shard found is head end same = record {
+  end_is = end ∙ is.closed.read.end_is ∙ ap (λ (h : StaticHead). end_of (base_of h.p) (bodies_of is.closed.groups)) (sym head);
+  there = subst (λ (o : Option (List ℕ)). IfSome o (HasGroups (log_head log) is.closed.groups)) (sym same)
+      (subst (λ (h : StaticHead). IfSome old (HasGroups h is.closed.groups)) (sym head)
+      (if_some old (λ f. f ≡ is.bytes) (HasGroups found.head is.closed.groups) is.told (λ f same_bytes. closed_groups found.head is.closed.groups found.closing.next f (same_bytes ∙ is.closed.text))));
+}
+
+-- what was read
+pub read_of : {D : Type 0} (image : D → Option (List ℕ)) (disk : D) (log : GroupLog D) (kinds : List ℕ) (writable : Bool) (shard : ShardOf) (found : Found) → IsClosedOn (image disk) kinds writable shard found
+    → log_head log ≡ found.head → log_end log ≡ found.closing.size → image (log_disk log) ≡ image disk → HasRead image disk shard (record { log = log; records = found.records; heads = found.heads; next = found.closing.next })
+read_of image disk log kinds writable shard found is head end same =
+    let groups = is.closed.groups in
+    record {
+      groups = groups;
+      read = subst (λ (h : StaticHead). IsRead h (log_end log) found.records found.heads.items found.closing.next groups) (sym head)
+          (subst (λ (n : ℕ). IsRead found.head n found.records found.heads.items found.closing.next groups) (sym end) is.closed.read);
+      stands = log_stands image (image disk) log kinds writable shard found is head end same;
+      home = subst (λ (h : StaticHead). h.kind ≡ 1 → AllHome shard groups) (sym head) is.closed.home;
+      text = if_some (image disk) (λ f. f ≡ is.bytes) (λ f. f ≡ closed_text (log_head log) groups found.closing.next) is.told
+          (λ f same_bytes. same_bytes ∙ is.closed.text ∙ ap (λ (h : StaticHead). closed_text h groups found.closing.next) (sym head));
+    }

@@ -1,0 +1,50 @@
+-- What the reading of a whole file answers.
+use Rattle.std.specs.Prelude.{◌≡◌, ℕ, ◌≤◌, Bool, List, Option, None, IfSome, Result, Ok, Err, OnOk, IsErrOf}
+use Rattle.tk_disk.specs.Crash.{Within, Elapses}
+use Rattle.tk_disk.specs.Disk.{Rose}
+use Rattle.tk_model.specs.declared.record.ShardOf.{ShardOf}
+use Rattle.tk_model.specs.declared.record.Group.{Group}
+use Rattle.tk_model.specs.declared.error.OpenError.{OpenError}
+use Rattle.tk_model.specs.declared.error.OpenError.TheVariants as errors
+use Rattle.tk_append.specs.Log.{IsRead, AllHome, TellsCause, closed_text}
+use Rattle.tk_append.specs.Checked.{IsClosed}
+use Rattle.tk_append.specs.declared.check.Found.{Found}
+use Rattle.tk_append.specs.LogParts.{Stands, log_head, log_end}
+use Rattle.tk_append.specs.declared.read.ReadLog.{ReadLog}
+
+-- a cause that says nothing of the file
+abbrev pub IsOutside : OpenError → Type 0
+IsOutside errors.NotADatabase = ⊥
+IsOutside (errors.BrokenAt place) = ⊥
+IsOutside errors.Fault = Unit {0}
+IsOutside errors.NoMemory = Unit {0}
+
+-- the count of faults never falls, and a fault comes only where it rose
+pub record HasOpenCause {T : Type 0} (before now : ℕ) (result : Result T OpenError) : Type 0 where
+  pub later : before ≤ now
+  pub kept : OnOk result (now ≡ before)
+  pub fault : IsErrOf result errors.Fault → Rose before now
+
+-- what was read is a file of these groups, which the log has, the closed file of them where the disk tells its bytes
+pub record HasRead {D : Type 0} (image : D → Option (List ℕ)) (disk : D) (shard : ShardOf) (r : ReadLog D) : Type 0 where
+  pub groups : List Group
+  pub read : IsRead (log_head r.log) (log_end r.log) r.records r.heads.items r.next groups
+  pub stands : Stands image r.log groups
+  pub home : (log_head r.log).kind ≡ 1 → AllHome shard groups
+  pub text : IfSome (image disk) (λ f. f ≡ closed_text (log_head r.log) groups r.next)
+
+-- the answer of a check, as far as it speaks of the file
+abbrev pub TellsResult : {T : Type 0} → Result T OpenError → Option OpenError → Type 0
+TellsResult (Ok x) fault = fault ≡ None
+TellsResult (Err e) fault = TellsCause e fault
+
+-- what was found is the closed file of some groups, of the disk's bytes where it tells them
+pub record IsClosedOn (image : Option (List ℕ)) (kinds : List ℕ) (writable : Bool) (shard : ShardOf) (found : Found) : Type 0 where
+  pub bytes : List ℕ
+  pub closed : IsClosed kinds writable shard bytes found
+  pub told : IfSome image (λ f. f ≡ bytes)
+
+-- a crash leaves nothing that it didn't before the reading, and time goes on
+pub record OnlyReads {D : Type 0} (may_leave : D → List ℕ → Type 0) (moment : D → ℕ) (left_since : D → ℕ → List ℕ → Type 0) (old new : D) : Type 0 where
+  pub crash : Within (may_leave old) (may_leave new)
+  pub time : Elapses (moment old) (moment new) (left_since old) (left_since new) (may_leave new)

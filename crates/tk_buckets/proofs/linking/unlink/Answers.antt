@@ -1,0 +1,73 @@
+use Rattle.std.proofs.Common.{◌≡◌, ℕ, ◌+◌, ◌≤◌, List, length, sym, ◌∙◌, subst}
+use Rattle.std.specs.Prelude.{Option, IfSome, OnOk}
+use Rattle.std.specs.Option.{option_map}
+use Rattle.std.proofs.lemmas.Option.{IfSome_then}
+use Rattle.tk_disk.specs.Crash.{Torn, Follows}
+use Rattle.tk_disk.specs.Disk.{put_at}
+use Rattle.tk_block.specs.Number.{u64_in}
+use Rattle.tk_buckets.proofs.Cuts.{found_in, cell_in, cut_in, cut_written, cut_leaves, nothing_torn, cell_torn}
+use Rattle.tk_buckets.proofs.linking.unlink.Goals as goal
+
+pub returns-in_default-clause-written : goal.returns-in_default-clause-written
+returns-in_default-clause-written g c = λ places.
+    IfSome_then (g.D.Disk.image c.args.disk.now)
+    (found_in c.args.head.now (g.D.Disk.image c.args.disk.now) (g.D.Disk.image c.len.new.self) c.args.bucket c.args.place places c.in_ok-cell.field-0 c.requires.bucket c.len.ensures.image (c.in_ok-cell.ensures.found c.args.head.now places))
+    (λ f known chain has. absurd (c.in_default.not-Some _ (known chain has)))
+
+pub returns-in_default-clause-chain : goal.returns-in_default-clause-chain
+returns-in_default-clause-chain g c = λ places.
+    IfSome_then (g.D.Disk.image c.args.disk.now)
+    (found_in c.args.head.now (g.D.Disk.image c.args.disk.now) (g.D.Disk.image c.len.new.self) c.args.bucket c.args.place places c.in_ok-cell.field-0 c.requires.bucket c.len.ensures.image (c.in_ok-cell.ensures.found c.args.head.now places))
+    (λ f known chain has. absurd (c.in_default.not-Some _ (known chain has)))
+
+pub write_at-requires-clause-within : goal.write_at-requires-clause-within
+write_at-requires-clause-within g c =
+    subst (λ (o : Option (List ℕ)). IfSome o (λ f. c.in-Some.cell ≤ length f)) (sym (c.number_at.ensures.image ∙ c.cell_of.ensures.image ∙ c.len.ensures.image))
+    (cell_in c.args.head.now (g.D.Disk.image c.args.disk.now) c.args.bucket c.args.place c.in-Some.cell c.in_ok-cell.field-0 c.requires.bucket c.in-Some.is c.requires.chain
+    (λ places. found_in c.args.head.now (g.D.Disk.image c.args.disk.now) (g.D.Disk.image c.len.new.self) c.args.bucket c.args.place places c.in_ok-cell.field-0 c.requires.bucket c.len.ensures.image (c.in_ok-cell.ensures.found c.args.head.now places)))
+
+pub returns-clause-written : goal.returns-clause-written
+returns-clause-written g c = λ places.
+    let image = g.D.Disk.image c.args.disk.now in
+    cut_written c.write_at.result c.args.head.now image (g.D.Disk.image c.write_at.new.self) c.args.bucket c.args.place c.in-Some.cell c.in_ok-link.link places
+    (cut_in c.args.head.now image c.args.bucket c.args.place c.in-Some.cell c.saturating_add.result c.in_ok-link.link places c.in_ok-cell.field-0 c.requires.bucket c.in-Some.is c.requires.size c.saturating_add.ensures
+    (found_in c.args.head.now image (g.D.Disk.image c.len.new.self) c.args.bucket c.args.place places c.in_ok-cell.field-0 c.requires.bucket c.len.ensures.image (c.in_ok-cell.ensures.found c.args.head.now places))
+    (subst (λ (o : Option (List ℕ)). IfSome o (λ f. c.saturating_add.result + 8 ≤ length f → c.in_ok-link.link ≡ u64_in f c.saturating_add.result)) (c.cell_of.ensures.image ∙ c.len.ensures.image) c.in_ok-link.ensures.value))
+    (subst (λ (l : List ℕ). OnOk c.write_at.result (g.D.Disk.image c.write_at.new.self ≡ option_map (put_at c.in-Some.cell l) image)) c.to_be_bytes.ensures
+    (subst (λ (o : Option (List ℕ)). OnOk c.write_at.result (g.D.Disk.image c.write_at.new.self ≡ option_map (put_at c.in-Some.cell c.to_be_bytes.result) o)) (c.number_at.ensures.image ∙ c.cell_of.ensures.image ∙ c.len.ensures.image) c.write_at.ensures.written))
+
+pub returns-clause-chain : goal.returns-clause-chain
+returns-clause-chain g c = λ places.
+    let image = g.D.Disk.image c.args.disk.now in
+    cut_leaves c.write_at.result c.args.head.now image (g.D.Disk.image c.write_at.new.self) c.args.bucket c.args.place c.in-Some.cell c.in_ok-link.link places c.requires.bucket c.in_ok-link.ensures.fits
+    (cut_in c.args.head.now image c.args.bucket c.args.place c.in-Some.cell c.saturating_add.result c.in_ok-link.link places c.in_ok-cell.field-0 c.requires.bucket c.in-Some.is c.requires.size c.saturating_add.ensures
+    (found_in c.args.head.now image (g.D.Disk.image c.len.new.self) c.args.bucket c.args.place places c.in_ok-cell.field-0 c.requires.bucket c.len.ensures.image (c.in_ok-cell.ensures.found c.args.head.now places))
+    (subst (λ (o : Option (List ℕ)). IfSome o (λ f. c.saturating_add.result + 8 ≤ length f → c.in_ok-link.link ≡ u64_in f c.saturating_add.result)) (c.cell_of.ensures.image ∙ c.len.ensures.image) c.in_ok-link.ensures.value))
+    (subst (λ (l : List ℕ). OnOk c.write_at.result (g.D.Disk.image c.write_at.new.self ≡ option_map (put_at c.in-Some.cell l) image)) c.to_be_bytes.ensures
+    (subst (λ (o : Option (List ℕ)). OnOk c.write_at.result (g.D.Disk.image c.write_at.new.self ≡ option_map (put_at c.in-Some.cell c.to_be_bytes.result) o)) (c.number_at.ensures.image ∙ c.cell_of.ensures.image ∙ c.len.ensures.image) c.write_at.ensures.written))
+
+pub returns-in_err-len-clause-crash : goal.returns-in_err-len-clause-crash
+returns-in_err-len-clause-crash g c = λ places.
+    nothing_torn c.args.head.now (g.D.Disk.image c.args.disk.now) c.args.bucket c.args.place places (g.D.Disk.may_leave c.args.disk.now) _ c.len.ensures.crash
+
+pub returns-in_err-cell-clause-crash : goal.returns-in_err-cell-clause-crash
+returns-in_err-cell-clause-crash g c = λ places.
+    nothing_torn c.args.head.now (g.D.Disk.image c.args.disk.now) c.args.bucket c.args.place places (g.D.Disk.may_leave c.args.disk.now) _ (λ l left. c.len.ensures.crash l (c.cell_of.ensures.crash l left))
+
+pub returns-in_default-clause-crash : goal.returns-in_default-clause-crash
+returns-in_default-clause-crash g c = λ places.
+    nothing_torn c.args.head.now (g.D.Disk.image c.args.disk.now) c.args.bucket c.args.place places (g.D.Disk.may_leave c.args.disk.now) _ (λ l left. c.len.ensures.crash l (c.cell_of.ensures.crash l left))
+
+pub returns-in_err-link-clause-crash : goal.returns-in_err-link-clause-crash
+returns-in_err-link-clause-crash g c = λ places.
+    nothing_torn c.args.head.now (g.D.Disk.image c.args.disk.now) c.args.bucket c.args.place places (g.D.Disk.may_leave c.args.disk.now) _ (λ l left. c.len.ensures.crash l (c.cell_of.ensures.crash l (c.number_at.ensures.crash l left)))
+
+pub returns-clause-crash : goal.returns-clause-crash
+returns-clause-crash g c = λ places.
+    let image = g.D.Disk.image c.args.disk.now in
+    cell_torn c.args.head.now image c.args.bucket c.args.place c.in-Some.cell c.in_ok-link.link places (g.D.Disk.may_leave c.args.disk.now) (g.D.Disk.may_leave c.number_at.new.disk) _
+    (cut_in c.args.head.now image c.args.bucket c.args.place c.in-Some.cell c.saturating_add.result c.in_ok-link.link places c.in_ok-cell.field-0 c.requires.bucket c.in-Some.is c.requires.size c.saturating_add.ensures
+    (found_in c.args.head.now image (g.D.Disk.image c.len.new.self) c.args.bucket c.args.place places c.in_ok-cell.field-0 c.requires.bucket c.len.ensures.image (c.in_ok-cell.ensures.found c.args.head.now places))
+    (subst (λ (o : Option (List ℕ)). IfSome o (λ f. c.saturating_add.result + 8 ≤ length f → c.in_ok-link.link ≡ u64_in f c.saturating_add.result)) (c.cell_of.ensures.image ∙ c.len.ensures.image) c.in_ok-link.ensures.value))
+    (λ l left. c.len.ensures.crash l (c.cell_of.ensures.crash l (c.number_at.ensures.crash l left)))
+    (subst (λ (l : List ℕ). Follows (Torn c.in-Some.cell (length l)) (g.D.Disk.may_leave c.number_at.new.disk) (g.D.Disk.may_leave c.write_at.new.self)) c.to_be_bytes.ensures c.write_at.ensures.crash)

@@ -1,0 +1,17 @@
+use Rattle.std.proofs.Common.{◌≡◌, ℕ, ◌+◌, ◌*◌, ◌-◌, ◌/◌, ◌≤◌, List, length}
+use Rattle.tk_disk.specs.Crash.{Within}
+use Rattle.tk_block.specs.declared.head.StaticHead.{StaticHead}
+use Rattle.tk_buckets.proofs.Follows.{ToldLeft}
+use Rattle.tk_buckets.proofs.places.follow.Given as goal
+
+abbrev pub invariant-loop-next : goal.invariant-loop-next
+invariant-loop-next g l = record {
+  left : (h : StaticHead) (places : List ℕ) → ToldLeft h (g.D.Disk.image l.initial.disk) l.first places l.places l.next;
+  image : g.D.Disk.image l.disk ≡ g.D.Disk.image l.initial.disk;
+  taken : g.D.Disk.taken_count l.disk ≤ g.D.Disk.taken_count l.initial.disk + 8 * length l.places;
+  count : g.D.Disk.fault_count l.disk ≡ g.D.Disk.fault_count l.initial.disk;
+  crash : Within (g.D.Disk.may_leave l.initial.disk) (g.D.Disk.may_leave l.disk);
+}
+
+abbrev pub decreases-loop-next : goal.decreases-loop-next
+decreases-loop-next g l = l.len / 48 - length l.places

@@ -1,0 +1,87 @@
+-- A bucket as the list of the places of its blocks, the first of its chain first.
+use Rattle.std.specs.Prelude.{◌≡◌, ◌⊎◌, ℕ, ◌+◌, ◌*◌, ◌^◌, ◌≤◌, List, [], ◌∷◌, length, drop, Bool, Some, if◌then◌else◌, ◌==◌}
+use Rattle.std.specs.List.{list_any}
+use Rattle.tk_block.specs.Number.{u64_in}
+use Rattle.tk_block.specs.Text.{head_at, base_of}
+use Rattle.tk_block.specs.Blocks.{body_at, room_of}
+use Rattle.tk_block.specs.Grammar.{FitsBody}
+use Rattle.tk_block.specs.Layout.{Placed, is_in, laid, newest, links_of, texts}
+use Rattle.tk_block.specs.declared.block.Body.{Body}
+use Rattle.tk_block.specs.declared.head.StaticHead.{StaticHead}
+
+-- where a bucket's head stands
+abbrev pub head_cell : (bucket : ℕ) → ℕ
+head_cell bucket = 64 + 8 * bucket
+
+-- the extent that the block at a place says
+abbrev pub extent_in : List ℕ → (place : ℕ) → ℕ
+extent_in f place = u64_in f (place + 4)
+
+-- its link
+abbrev pub link_in : List ℕ → (place : ℕ) → ℕ
+link_in f place = u64_in f (place + 16)
+
+-- a block stands whole at the place, behind the heads
+pub record IsWhole (h : StaticHead) (f : List ℕ) (place : ℕ) : Type 0 where
+  pub body : Body
+  pub behind : base_of h.p ≤ place
+  pub head : head_at (drop place f) place ≡ Some (extent_in f place)
+  pub says : body_at (drop (place + 24) f) place ≡ Some body
+  pub room : room_of body ≤ extent_in f place
+  pub within : place + extent_in f place ≤ length f
+
+-- the block at a place has no byte in common with these
+abbrev pub IsApart : List ℕ → (place : ℕ) → List ℕ → Type 0
+IsApart f place [] = Unit {0}
+IsApart f place (q ∷ qs) = ((place + extent_in f place ≤ q) ⊎ (q + extent_in f q ≤ place)) × IsApart f place qs
+
+-- blocks that stand whole and apart, of which the first is at this place, each next one where the link says, and the last link is 0
+abbrev pub IsLinked : StaticHead → List ℕ → (first : ℕ) → List ℕ → Type 0
+IsLinked h f first [] = first ≡ 0
+IsLinked h f first (q ∷ qs) = (first ≡ q) × IsWhole h f q × IsApart f q qs × IsLinked h f (link_in f q) qs
+
+-- the bucket has these blocks
+pub record IsChain (h : StaticHead) (f : List ℕ) (bucket : ℕ) (places : List ℕ) : Type 0 where
+  pub heads : base_of h.p ≤ length f
+  pub linked : IsLinked h f (u64_in f (head_cell bucket)) places
+
+-- a block that is ready to be the first of the bucket: it stands whole, apart from the bucket's blocks, and its link is the bucket's head
+pub record IsNext (h : StaticHead) (f : List ℕ) (bucket place : ℕ) (places : List ℕ) : Type 0 where
+  pub chain : IsChain h f bucket places
+  pub whole : IsWhole h f place
+  pub apart : IsApart f place places
+  pub link : link_in f place ≡ u64_in f (head_cell bucket)
+
+-- the chain has the block
+abbrev pub has_block : (place : ℕ) → List ℕ → Bool
+has_block place places = list_any (λ (q : ℕ). q == place) places
+
+-- the cell that leads to a block of a chain that begins at a cell
+abbrev pub cell_to : (cell place : ℕ) → List ℕ → ℕ
+cell_to cell place [] = cell
+cell_to cell place (q ∷ qs) = if q == place then cell else cell_to (q + 16) place qs
+
+-- the chain without the block
+abbrev pub without : (place : ℕ) → List ℕ → List ℕ
+without place [] = []
+without place (q ∷ qs) = if q == place then qs else q ∷ without place qs
+
+abbrev pub place_step : (p bucket : ℕ) → List ℕ → Placed → List ℕ
+place_step p bucket found x = if x.body.kind == 4 then [] else (if is_in p bucket x.body then x.place ∷ found else found)
+
+-- the places of a bucket's blocks since the last clear, the newest first, in front of those that were found
+abbrev pub bucket_places : (p bucket : ℕ) → (found : List ℕ) → List Placed → List ℕ
+bucket_places p bucket found [] = found
+bucket_places p bucket found (x ∷ xs) = bucket_places p bucket (place_step p bucket found x) xs
+
+abbrev pub AllFitBody : List Body → Type 0
+AllFitBody [] = Unit {0}
+AllFitBody (b ∷ bs) = FitsBody b × AllFitBody bs
+
+-- the file has these blocks from the records' base on, each with its link, and the bucket's head is its newest block
+pub record IsWritten (h : StaticHead) (f : List ℕ) (bucket : ℕ) (bodies : List Body) : Type 0 where
+  pub size : length f ≤ 2 ^ 40
+  pub heads : base_of h.p ≤ length f
+  pub fit : AllFitBody bodies
+  pub blocks : drop (base_of h.p) f ≡ texts (laid (base_of h.p) bodies) (links_of h.p [] (laid (base_of h.p) bodies))
+  pub head : u64_in f (head_cell bucket) ≡ newest h.p bucket 0 (laid (base_of h.p) bodies)

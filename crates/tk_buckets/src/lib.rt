@@ -1,0 +1,12 @@
+//! The buckets of a file of blocks, as linked lists.
+#![tactic(auto)]
+
+mod linking;
+mod places;
+mod read;
+
+pub use linking::{insert, unlink};
+pub use places::{PlaceList, chain};
+
+#[cfg(test)]
+mod tests;

@@ -1,0 +1,98 @@
+ghost use Rattle.std.specs.Prelude.{◌≡◌, ◌≢◌, ◌+◌, ◌*◌, ◌<◌, ◌≤◌, ◌^◌, ◌∷◌, ◌&&◌, ◌-◌, List, ℕ, length, true, nat_le, Some, None, IfOk, IfSome, OnOk, if◌then◌else◌};
+ghost use Rattle.std.specs.Option.{is_some, option_map};
+ghost use Rattle.std.specs.Int.{w64, to_be_bytes};
+ghost use Rattle.tk_disk.specs.Crash.{Torn, Follows, Within};
+ghost use Rattle.tk_disk.specs.Disk.{put_at, HasCause};
+ghost use Rattle.tk_block.specs.Number.{u64_in};
+ghost use Rattle.tk_block.specs.Text.{base_of};
+ghost use Rattle.tk_block.specs.declared.head.StaticHead.{StaticHead};
+ghost use Rattle.tk_buckets.specs.Chain.{IsChain, IsLinked, IsNext, head_cell, link_in, has_block, cell_to, without};
+
+use crate::read::number_at;
+use tk_block::StaticHead;
+use tk_disk::{Disk, DiskError};
+
+/// Makes a block, whose link was written with it, the first of its bucket.
+pub fn insert<D: Disk>(
+    disk: &mut D,
+    head: &StaticHead,
+    bucket: u64,
+    place: u64,
+) -> Result<(), DiskError>
+    requires p { head.now.p ≤ 24 }
+    requires bucket { bucket < 2 ^ head.now.p }
+    requires heads { IfSome (D.image disk.old) (λ f. base_of head.now.p ≤ length f) }
+    ensures written { OnOk result (D.image disk.new ≡ option_map (put_at (head_cell bucket) (to_be_bytes w64 place)) (D.image disk.old)) }
+    ensures first { (places : List ℕ) → IfSome (D.image disk.old) (λ f. IsNext head.now f bucket place places
+        → OnOk result (IfSome (D.image disk.new) (λ g. IsChain head.now g bucket (place ∷ places)))) }
+    ensures others { (other : ℕ) (places : List ℕ) → other ≢ bucket → IfSome (D.image disk.old) (λ f. IsChain head.now f other places
+        → OnOk result (IfSome (D.image disk.new) (λ g. IsChain head.now g other places))) }
+    ensures told { is_some (D.image disk.new) ≡ is_some (D.image disk.old) }
+    ensures taken { D.taken_count disk.new ≡ D.taken_count disk.old }
+    ensures cause { HasCause (D.fault_count disk.old) (D.fault_count disk.new) result }
+    ensures crash { Follows (Torn (head_cell bucket) 8) (D.may_leave disk.old) (D.may_leave disk.new) }
+{
+    disk.write_at(64 + 8 * bucket, &place.to_be_bytes())
+}
+
+/// The cell, where it was found and a file may reach so far.
+fn found_cell(found: bool, cell: u64) -> Option<u64>
+    ensures value { result ≡ if found && nat_le cell (2 ^ 40 - 8) then Some cell else None }
+    ensures fits { IfSome result (λ c. c + 8 ≤ 2 ^ 40) }
+{
+    if found && cell <= (1 << 40) - 8 {
+        Some(cell)
+    } else {
+        None
+    }
+}
+
+/// The cell that leads to a block, from a cell on, in a file of this length.
+fn cell_of<D: Disk>(disk: &mut D, cell: u64, place: u64, len: u64) -> Result<Option<u64>, DiskError>
+    requires len { IfSome (D.image disk.old) (λ f. length f ≡ len) }
+    requires size { IfSome (D.image disk.old) (λ f. length f ≤ 2 ^ 40) }
+    ensures found { (h : StaticHead) (places : List ℕ) → IfSome (D.image disk.old) (λ f. cell + 8 ≤ length f → IsLinked h f (u64_in f cell) places → has_block place places ≡ true
+        → IfOk result (λ c. c ≡ Some (cell_to cell place places))) }
+    ensures fits { IfOk result (λ c. IfSome c (λ n. n + 8 ≤ 2 ^ 40)) }
+    ensures image { D.image disk.new ≡ D.image disk.old }
+    ensures cause { HasCause (D.fault_count disk.old) (D.fault_count disk.new) result }
+    ensures crash { Within (D.may_leave disk.old) (D.may_leave disk.new) }
+{
+    let mut at = cell;
+    let mut next = number_at(disk, cell)?;
+    let mut steps = 0;
+    while next != place && steps < len / 48 {
+        at = next.saturating_add(16);
+        next = number_at(disk, at)?;
+        steps += 1;
+    }
+    Ok(found_cell(next == place, at))
+}
+
+/// Takes a block out of its bucket: the cell that led to it leads to the next one.
+pub fn unlink<D: Disk>(
+    disk: &mut D,
+    head: &StaticHead,
+    bucket: u64,
+    place: u64,
+) -> Result<(), DiskError>
+    requires p { head.now.p ≤ 24 }
+    requires bucket { bucket < 2 ^ head.now.p }
+    requires chain { IfSome (D.image disk.old) (λ f. (places : List ℕ) × IsChain head.now f bucket places × (has_block place places ≡ true)) }
+    requires size { IfSome (D.image disk.old) (λ f. length f ≤ 2 ^ 40) }
+    ensures written { (places : List ℕ) → IfSome (D.image disk.old) (λ f. IsChain head.now f bucket places → has_block place places ≡ true
+        → OnOk result (D.image disk.new ≡ Some (put_at (cell_to (head_cell bucket) place places) (to_be_bytes w64 (link_in f place)) f))) }
+    ensures chain { (places : List ℕ) → IfSome (D.image disk.old) (λ f. IsChain head.now f bucket places → has_block place places ≡ true
+        → OnOk result (IfSome (D.image disk.new) (λ g. IsChain head.now g bucket (without place places)))) }
+    ensures told { is_some (D.image disk.new) ≡ is_some (D.image disk.old) }
+    ensures cause { HasCause (D.fault_count disk.old) (D.fault_count disk.new) result }
+    ensures crash { (places : List ℕ) → IfSome (D.image disk.old) (λ f. IsChain head.now f bucket places → has_block place places ≡ true
+        → Follows (Torn (cell_to (head_cell bucket) place places) 8) (D.may_leave disk.old) (D.may_leave disk.new)) }
+{
+    let len = disk.len()?;
+    let Some(cell) = cell_of(disk, 64 + 8 * bucket, place, len)? else {
+        return Ok(());
+    };
+    let link = number_at(disk, place.saturating_add(16))?;
+    disk.write_at(cell, &link.to_be_bytes())
+}
