@@ -9,3 +9,4 @@ pub mod Runs
 pub mod Knows
 pub mod Programs
 pub mod Rows
+pub mod RunRows

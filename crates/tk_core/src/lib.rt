@@ -5,7 +5,9 @@ mod frame;
 mod law;
 mod machine;
 mod moves;
+mod run;
 mod steps;
+mod stubs;
 
 pub use frame::Frame;
 pub use law::{
