@@ -10,3 +10,4 @@ pub mod Knows
 pub mod Programs
 pub mod Rows
 pub mod RunRows
+pub mod CommitRows

@@ -1,6 +1,8 @@
 //! The pure core of one history under rising locks.
 #![tactic(auto)]
 
+mod commit;
+mod covers;
 mod frame;
 mod law;
 mod machine;

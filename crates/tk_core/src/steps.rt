@@ -150,7 +150,7 @@ impl Core {
 }
 
 /// Whether the number stands in the list.
-fn holds(list: &[u32], number: u32) -> bool
+pub(crate) fn holds(list: &[u32], number: u32) -> bool
     ensures { result ≡ has number list.now }
 {
     list.contains(&number)

@@ -17,6 +17,7 @@ pub use hash::{bucket, fnv32, fnv32_from, fnv64, mix, shard};
 pub use law::{changes_are_enough, keys_in_line, records_are_a_map};
 pub use list::ListOf;
 pub use order::{before, compare_keys, is_same};
+pub use place::value_at;
 pub use plain::PlainMap;
 pub use record::{
     Action, Bound, BytesList, Change, ChangeList, Entry, EntryList, FaultList, Group, GroupList,
