@@ -1,1 +1,127 @@
+//! What a call asks before it is committed.
+ghost use Rattle.std.specs.Prelude.{◌≡◌, ◌&&◌, true, [], not, IfOk, Decides};
+ghost use Rattle.tk_model.specs.Entries.{is_keep, legal, after_entry, replay_entries};
+ghost use Rattle.tk_core.specs.Commits.{hand, is_there, MayAct, MayActEach, MayWrite, MayMake};
+ghost use Rattle.tk_core.specs.Covers.{IsFrame, CoversReads};
 
+use crate::Frame;
+use crate::covers::{are_all_ready, covers_reads, may_change};
+use crate::machine::Row;
+use std::alloc::Global;
+use tk_model::{Action, Entry, NoMemory, Order, Pair, PlainMap, Touch, value_at};
+
+/// The records after a history that is legal.
+fn replay(alloc: Global, order: Order, history: &[Entry]) -> Result<PlainMap, NoMemory>
+    requires { legal order [] history.now ≡ true }
+    ensures { IfOk result (λ map. map ≡ record { order = order; pairs = replay_entries order history.now [] }) }
+{
+    let mut map = PlainMap::new(alloc, order);
+    for entry in history {
+        let _ = map.run(entry)?;
+    }
+    Ok(map)
+}
+
+/// Whether the action changes the key, on the way from some records to others.
+fn changes(before: &[Pair], after: &[Pair], key: &[u8], action: &Action) -> bool
+    ensures { result ≡ (not (is_keep action.now) && is_there key.now before.now after.now) }
+{
+    match action {
+        Action::Keep => false,
+        Action::Put(_) | Action::Drop => {
+            value_at(before, key).is_some() || value_at(after, key).is_some()
+        }
+    }
+}
+
+fn may_act(
+    frame: Frame,
+    row: &Row,
+    before: &[Pair],
+    after: &[Pair],
+    key: &[u8],
+    action: &Action,
+) -> bool
+    requires { IsFrame frame }
+    ensures { Decides result (MayAct frame (hand row.now) before.now after.now key.now action.now) }
+{
+    if !changes(before, after, key, action) {
+        return true;
+    }
+    may_change(frame, row, key)
+}
+
+fn may_act_each(
+    frame: Frame,
+    row: &Row,
+    before: &[Pair],
+    after: &[Pair],
+    touches: &[Touch],
+) -> bool
+    requires { IsFrame frame }
+    ensures { Decides result (MayActEach frame (hand row.now) before.now after.now touches.now) }
+{
+    for touch in touches {
+        if !may_act(
+            frame,
+            row,
+            before,
+            after,
+            touch.key.as_slice(),
+            &touch.action,
+        ) {
+            return false;
+        }
+    }
+    true
+}
+
+/// Whether all that the call changes may be changed; its reads are covered.
+fn may_write(frame: Frame, row: &Row, before: &[Pair], after: &[Pair], entry: &Entry) -> bool
+    requires frame { IsFrame frame }
+    requires reads { CoversReads frame (hand row.now).held entry.now }
+    requires after { after.now ≡ after_entry frame.order entry.now before.now }
+    ensures { Decides result (MayWrite frame (hand row.now) before.now entry.now) }
+{
+    match entry {
+        Entry::Proc(touches) | Entry::Each(touches) => {
+            may_act_each(frame, row, before, after, touches.as_slice())
+        }
+        Entry::Next {
+            found: Some(pair),
+            action,
+            ..
+        } => may_act(frame, row, before, after, pair.key.as_slice(), action),
+        Entry::Next { found: None, .. } | Entry::Count(_) | Entry::Sync(false) => true,
+        Entry::Clear | Entry::Sync(true) => are_all_ready(frame, row),
+    }
+}
+
+/// Whether the call may be made by a caller that knows this history, which is legal.
+fn may_make(
+    alloc: Global,
+    frame: Frame,
+    row: &Row,
+    history: &[Entry],
+    entry: &Entry,
+) -> Result<bool, NoMemory>
+    requires frame { IsFrame frame }
+    requires history { legal frame.order [] history.now ≡ true }
+    ensures { IfOk result (λ may. Decides may (MayMake frame (hand row.now) (replay_entries frame.order history.now []) entry.now)) }
+{
+    if !covers_reads(frame, &row.held, entry) {
+        return Ok(false);
+    }
+    let mut map = replay(alloc, frame.order, history)?;
+    let before = map.pairs().clone()?;
+    if !map.run(entry)? {
+        return Ok(false);
+    }
+    Ok(may_write(
+        frame,
+        row,
+        before.as_slice(),
+        map.pairs().as_slice(),
+        entry,
+    ))
+}
