@@ -10,4 +10,6 @@ pub mod Knows
 pub mod Programs
 pub mod Rows
 pub mod RunRows
+pub mod Needs
 pub mod CommitRows
+pub mod Histories

@@ -1,14 +1,61 @@
-//! What a call asks before it is committed.
-ghost use Rattle.std.specs.Prelude.{◌≡◌, ◌&&◌, true, [], not, IfOk, Decides};
+//! The step of a call that is committed.
+ghost use Rattle.std.specs.Prelude.{◌≡◌, ◌&&◌, true, [], not, IfOk, IfErr, Decides};
 ghost use Rattle.tk_model.specs.Entries.{is_keep, legal, after_entry, replay_entries};
 ghost use Rattle.tk_core.specs.Commits.{hand, is_there, MayAct, MayActEach, MayWrite, MayMake};
 ghost use Rattle.tk_core.specs.Covers.{IsFrame, CoversReads};
+ghost use Rattle.tk_core.specs.Needs.{MayCommit};
+ghost use Rattle.tk_core.specs.Program.{IsAnswer, AnyCaller};
+ghost use Rattle.tk_core.specs.declared.moves.Move.TheVariants as moves;
 
-use crate::Frame;
+use crate::{Core, Frame};
 use crate::covers::{are_all_ready, covers_reads, may_change};
 use crate::machine::Row;
 use std::alloc::Global;
 use tk_model::{Action, Entry, NoMemory, Order, Pair, PlainMap, Touch, value_at};
+
+impl Core {
+    fn may_commit(&self, alloc: Global, caller: u32, entry: &Entry) -> Result<bool, NoMemory>
+        ensures { IfOk result (λ may. Decides may (AnyCaller self.now caller (MayCommit self.now.frame (λ m. true ≡ true) [] entry.now))) }
+    {
+        let at = caller as usize;
+        if at >= self.rows.len() {
+            return Ok(false);
+        }
+        let row = &self.rows[at];
+        if !row.live {
+            return Ok(false);
+        }
+        if row.allowance == 0 {
+            return Ok(false);
+        }
+        may_make(alloc, self.frame, row, &self.log[..row.base], entry)
+    }
+
+    /// The call gets the next number of the history.
+    pub(crate) fn commit(
+        &mut self,
+        alloc: Global,
+        caller: u32,
+        entry: &Entry,
+    ) -> Result<bool, NoMemory>
+        ensures answer { IfOk result (λ done. IsAnswer (moves.Commit caller entry.now) self.old self.new done) }
+        ensures want { IfErr result (λ e. self.new ≡ self.old) }
+    {
+        if !self.may_commit(alloc, caller, entry)? {
+            return Ok(false);
+        }
+        let copy = entry.clone()?;
+        let number = self.log.len();
+        self.log.reserve(1)?;
+        let row = &mut self.rows[caller as usize];
+        row.mine.insert(0, number)?;
+        row.allowance -= 1;
+        row.seen = number + 1;
+        row.base = number + 1;
+        self.log.push_reserved(copy);
+        Ok(true)
+    }
+}
 
 /// The records after a history that is legal.
 fn replay(alloc: Global, order: Order, history: &[Entry]) -> Result<PlainMap, NoMemory>

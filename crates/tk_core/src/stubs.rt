@@ -1,11 +1,10 @@
-//! Not to land: the steps of locks.rt, and the commit, as contracts alone.
+//! Not to land: the steps of locks.rt as contracts alone.
 ghost use Rattle.std.specs.Prelude.{◌≡◌, IfOk, IfErr};
 ghost use Rattle.tk_core.specs.Program.{IsAnswer};
 ghost use Rattle.tk_core.specs.declared.moves.Move.TheVariants as moves;
 
 use crate::Core;
-use std::alloc::Global;
-use tk_model::{Entry, NoMemory};
+use tk_model::NoMemory;
 
 impl Core {
     pub(crate) fn take(&mut self, caller: u32, lock: u32) -> Result<bool, NoMemory>
@@ -42,21 +41,6 @@ impl Core {
         ensures want { IfErr result (λ e. self.new ≡ self.old) }
     {
         let _ = (caller, other);
-        Err(NoMemory)
-    }
-
-    pub(crate) fn commit(
-        &mut self,
-        alloc: Global,
-        caller: u32,
-        entry: &Entry,
-    ) -> Result<bool, NoMemory>
-        ensures answer { IfOk result (λ done. IsAnswer (moves.Commit caller entry.now) self.old self.new done) }
-        ensures want { IfErr result (λ e. self.new ≡ self.old) }
-    {
-        let _ = alloc;
-        let _ = caller;
-        let _ = entry;
         Err(NoMemory)
     }
 }

@@ -1,5 +1,5 @@
 use Rattle.tk_core.specs.Commits.{hand, MayActEach}
-use Rattle.tk_core.proofs.CommitRows.{SoFar}
+use Rattle.tk_core.proofs.Needs.{SoFar}
 use Rattle.tk_core.proofs.commit.may_act_each.Given as goal
 
 abbrev pub invariant-loop-touch : goal.invariant-loop-touch

@@ -1,5 +1,5 @@
 use Rattle.tk_core.specs.Covers.{ReadsEach}
-use Rattle.tk_core.proofs.CommitRows.{SoFar}
+use Rattle.tk_core.proofs.Needs.{SoFar}
 use Rattle.tk_core.proofs.covers.reads_each.Given as goal
 
 abbrev pub invariant-loop-touch : goal.invariant-loop-touch
