@@ -1,5 +1,5 @@
 //! The step of a call that is committed.
-ghost use Rattle.std.specs.Prelude.{◌≡◌, ◌&&◌, true, [], not, IfOk, IfErr, Decides};
+ghost use Rattle.std.specs.Prelude.{◌≡◌, ◌&&◌, true, [], ◌∷◌, ◌++◌, not, IfOk, IfErr, OnOk, OnErr, Decides};
 ghost use Rattle.tk_model.specs.Entries.{is_keep, legal, after_entry, replay_entries};
 ghost use Rattle.tk_core.specs.Commits.{hand, is_there, MayAct, MayActEach, MayWrite, MayMake};
 ghost use Rattle.tk_core.specs.Covers.{IsFrame, CoversReads};
@@ -44,17 +44,27 @@ impl Core {
         if !self.may_commit(alloc, caller, entry)? {
             return Ok(false);
         }
-        let copy = entry.clone()?;
         let number = self.log.len();
-        self.log.reserve(1)?;
         let row = &mut self.rows[caller as usize];
         row.mine.insert(0, number)?;
+        if let Err(refused) = push_copy(&mut self.log, entry) {
+            row.mine.remove(0);
+            return Err(refused);
+        }
         row.allowance -= 1;
         row.seen = number + 1;
         row.base = number + 1;
-        self.log.push_reserved(copy);
         Ok(true)
     }
+}
+
+fn push_copy(log: &mut Vec<Entry>, entry: &Entry) -> Result<(), NoMemory>
+    ensures ok { OnOk result (log.new.items ≡ log.old.items ++ entry.now ∷ []) }
+    ensures err { OnErr result (log.new.items ≡ log.old.items) }
+{
+    let copy = entry.clone()?;
+    log.push(copy)?;
+    Ok(())
 }
 
 /// The records after a history that is legal.
