@@ -1,5 +1,5 @@
 -- A call that is committed: the rows show the callers of the rule once it stands in the history.
-use Rattle.std.proofs.Common.{◌≡◌, ℕ, ◌+◌, ◌-◌, ◌<◌, ◌≤◌, Bool, true, false, List, [], ◌∷◌, ◌++◌, length, length-append, map, set, get_or, take, zero, suc, refl, sym, ap, ◌∙◌, subst, arith, Decides, ◌&&◌}
+use Rattle.std.proofs.Common.{◌≡◌, ℕ, ◌+◌, ◌-◌, ◌<◌, Bool, true, false, List, [], ◌∷◌, ◌++◌, length, length-append, map, set, get_or, take, zero, suc, refl, sym, ap, ◌∙◌, subst, arith, Decides, ◌&&◌}
 use lib.ListN.{get_elem?}
 use mathlib.Core.Option.{some}
 use lib.Seq.{map-set}
@@ -15,7 +15,7 @@ use Rattle.tk_core.specs.Caller.{Caller}
 use Rattle.tk_core.specs.Commits.{hand, MayMake}
 use Rattle.tk_core.specs.Moves.{committed}
 use Rattle.tk_core.specs.Needs.{MayCommit}
-use Rattle.tk_core.specs.Program.{CoreState, AnyCaller, IsCore, firsts, numbered, caller_of, state_of}
+use Rattle.tk_core.specs.Program.{CoreState, AnyCaller, IsCore, firsts, numbered, caller_of}
 use Rattle.tk_core.specs.Rule.{map_after}
 use Rattle.tk_core.proofs.Facts.{both}
 use Rattle.tk_core.proofs.Histories.{Fits, within, firsts_all, at_end, at_mapped, elem_at, map_alike, numbered_longer, row_longer}

@@ -1,14 +1,11 @@
 -- What a call asks, touch by touch, is what its net changes ask.
-use Rattle.std.proofs.Common.{◌≡◌, ◌≢◌, ◌⊎◌, inl, inr, ◌||◌, ◌==◌, ℕ, zero, suc, ◌+◌, ◌<◌, ◌≤◌, Bool, true, false, not, List, [], ◌∷◌, ◌++◌, length, filter, get_or, drop, Option, Some, None, is_some, refl, sym, ap, subst, ◌∙◌, ⊎_elim, arith, Decides, if◌then◌else◌}
+use Rattle.std.proofs.Common.{◌≡◌, ◌≢◌, ◌⊎◌, inl, ◌||◌, ℕ, ◌<◌, Bool, true, false, not, List, [], ◌∷◌, ◌++◌, filter, drop, Option, Some, None, is_some, refl, sym, ap, subst, ◌∙◌, ⊎_elim, Decides, if◌then◌else◌}
 use Rattle.tk_model.specs.Orders.{same_bytes}
 use Rattle.tk_model.specs.Records.{find}
 use Rattle.tk_model.specs.Entries.{is_keep, touches, all_touched, after_entry, written_keys, net_change, net_changes, changes_of, is_in_shard, holds_key}
 use Rattle.tk_model.proofs.KeyOrders.{same_told}
 use Rattle.tk_model.specs.declared.record.Pair.{Pair}
 use Rattle.tk_model.specs.declared.record.Touch.{Touch}
-use Rattle.tk_model.specs.declared.record.Action.{Action}
-use Rattle.tk_model.specs.declared.record.Way.{Way}
-use Rattle.tk_model.specs.declared.record.Bound.{Bound}
 use Rattle.tk_model.specs.declared.record.ShardOf.{ShardOf}
 use Rattle.tk_model.specs.declared.record.Entry.{Entry}
 use Rattle.tk_model.specs.declared.record.Entry.TheVariants as entries
@@ -16,8 +13,8 @@ use Rattle.tk_model.specs.declared.record.Change.{Change}
 use Rattle.tk_model.specs.declared.record.Change.TheVariants as changes
 use Rattle.tk_core.specs.declared.frame.Frame.{Frame}
 use Rattle.tk_core.specs.Caller.{Caller}
-use Rattle.tk_core.specs.Commits.{Ready, ReadyAll, MayChange, is_there, MayAct, MayActEach, MayWrite}
-use Rattle.tk_core.specs.Covers.{IsFrame, HoldsAll, CoversReads, CoversWrites, store_of}
+use Rattle.tk_core.specs.Commits.{Ready, ReadyAll, MayChange, is_there, MayActEach, MayWrite}
+use Rattle.tk_core.specs.Covers.{IsFrame, CoversWrites, store_of}
 use Rattle.tk_core.specs.Rule.{shard, is_hard}
 use Rattle.tk_core.proofs.Calls.{in_stores}
 use Rattle.tk_core.proofs.Facts.{by_bool, by_test}

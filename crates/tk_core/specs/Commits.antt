@@ -1,7 +1,7 @@
 -- What a call asks of what a caller holds, key by key.
 use Rattle.std.specs.Prelude.{◌≡◌, ◌||◌, ◌<◌, ℕ, Bool, true, false, List, [], ◌∷◌, is_some}
 use Rattle.tk_model.specs.Records.{find}
-use Rattle.tk_model.specs.Entries.{is_keep, is_legal, after_entry, changes_of}
+use Rattle.tk_model.specs.Entries.{is_keep, is_legal, changes_of}
 use Rattle.tk_model.specs.declared.record.Action.{Action}
 use Rattle.tk_model.specs.declared.record.Pair.{Pair}
 use Rattle.tk_model.specs.declared.record.Touch.{Touch}

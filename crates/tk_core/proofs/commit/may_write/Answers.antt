@@ -1,4 +1,4 @@
-use Rattle.std.proofs.Common.{subst, ◌≡◌, Decides}
+use Rattle.std.proofs.Common.{subst, Decides}
 use Rattle.tk_core.specs.Commits.{hand, MayActEach}
 use Rattle.tk_core.proofs.Needs.{for_touches}
 use Rattle.tk_core.proofs.commit.may_write.Goals as goal

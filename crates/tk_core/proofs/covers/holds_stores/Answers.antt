@@ -1,4 +1,4 @@
-use Rattle.std.proofs.Common.{◌≡◌, ℕ, ◌+◌, ◌-◌, true, sym, subst, arith}
+use Rattle.std.proofs.Common.{◌≡◌, ℕ, ◌+◌, ◌-◌, true, subst, arith}
 use Rattle.tk_core.specs.Lists.{has}
 use Rattle.tk_core.proofs.covers.holds_stores.Goals as goal
 

@@ -1,10 +1,9 @@
-use Rattle.std.proofs.Common.{rules, ◌≡◌, ◌<◌, ◌≤◌, ◌+◌, ◌-◌, [], ◌∷◌, ◌++◌, length, set, drop, List, refl, sym, ap, subst, ◌∙◌, arith}
+use Rattle.std.proofs.Common.{rules, ◌≡◌, ◌<◌, ◌+◌, ◌-◌, [], ◌∷◌, ◌++◌, length, set, drop, List, refl, sym, ap, subst, ◌∙◌, arith}
 use Rattle.tk_model.specs.declared.record.Entry.{Entry}
 use Rattle.tk_core.specs.declared.machine.Row.{Row}
 use Rattle.tk_core.specs.Moves.{committed}
 use Rattle.tk_core.specs.Needs.{MayCommit}
 use Rattle.tk_core.specs.Program.{CoreState, AnyCaller, IsCore, numbered, caller_of}
-use Rattle.tk_core.specs.declared.moves.Move.TheVariants as moves
 use Rattle.tk_core.proofs.Histories.{Fits}
 use Rattle.tk_core.proofs.Rows.{in_map, unchanged, of_row}
 use Rattle.tk_core.proofs.CommitRows.{EveryMap, shown, row_fits, commit_done, fresh_row}

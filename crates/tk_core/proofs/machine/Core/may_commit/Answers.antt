@@ -1,4 +1,4 @@
-use Rattle.std.proofs.Common.{rules, ◌≡◌, ◌≤◌, ◌<◌, true, false, Bool, [], length, take, sym, ap, subst, ◌∙◌, arith, Decides}
+use Rattle.std.proofs.Common.{rules, ◌≡◌, ◌≤◌, ◌<◌, true, false, [], length, take, sym, ap, subst, ◌∙◌, arith, Decides}
 use Rattle.std.proofs.lemmas.Result.{IfOk-weaker}
 use Rattle.tk_model.specs.Entries.{legal}
 use Rattle.tk_core.specs.Commits.{hand, MayMake}
