@@ -25,7 +25,6 @@ use Rattle.tk_core.proofs.Facts.{by_bool, by_test}
 abbrev pub SoFar : (List Touch → Type 0) → List Touch → ℕ → Type 0
 SoFar E ts i = (E (drop i ts) → E ts) × (E ts → E (drop i ts))
 
-
 -- ---- from touches to the keys that they write
 
 module _ (f : Frame) (v : Caller) (m n : List Pair) where

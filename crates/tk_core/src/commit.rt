@@ -7,9 +7,9 @@ ghost use Rattle.tk_core.specs.Needs.{MayCommit};
 ghost use Rattle.tk_core.specs.Program.{IsAnswer, AnyCaller};
 ghost use Rattle.tk_core.specs.declared.moves.Move.TheVariants as moves;
 
-use crate::{Core, Frame};
 use crate::covers::{are_all_ready, covers_reads, may_change};
 use crate::machine::Row;
+use crate::{Core, Frame};
 use std::alloc::Global;
 use tk_model::{Action, Entry, NoMemory, Order, Pair, PlainMap, Touch, value_at};
 
@@ -108,13 +108,7 @@ fn may_act(
     may_change(frame, row, key)
 }
 
-fn may_act_each(
-    frame: Frame,
-    row: &Row,
-    before: &[Pair],
-    after: &[Pair],
-    touches: &[Touch],
-) -> bool
+fn may_act_each(frame: Frame, row: &Row, before: &[Pair], after: &[Pair], touches: &[Touch]) -> bool
     requires { IsFrame frame }
     ensures { Decides result (MayActEach frame (hand row.now) before.now after.now touches.now) }
 {
@@ -174,11 +168,5 @@ fn may_make(
     if !map.run(entry)? {
         return Ok(false);
     }
-    Ok(may_write(
-        frame,
-        row,
-        before.as_slice(),
-        map.pairs().as_slice(),
-        entry,
-    ))
+    Ok(may_write(frame, row, before.as_slice(), map.pairs().as_slice(), entry))
 }

@@ -20,4 +20,6 @@ pub use machine::Core;
 pub use moves::{Move, MoveList};
 
 #[cfg(test)]
+mod run_tests;
+#[cfg(test)]
 mod tests;

@@ -60,7 +60,7 @@ overflow_sub-row c =
     let old : Row = c.index_mut-row.result.now in
     let low : c.args.caller < length c.self.inside.rows.items = in_map (caller_of c.self.inside.log.items) c.self.inside.rows.items c.args.caller _ (subst (λ (s : CoreState). AnyCaller s c.args.caller (MayCommit s.frame EveryMap [] c.args.entry.now)) (sym c.self.view_is) a).1 in
     let m : 0 < old.allowance = (of_row c.self.inside.log.items c.self.inside.rows.items c.args.caller old low c.index_mut-row.ensures.value (MayCommit c.self.inside.frame EveryMap [] c.args.entry.now)
-        (subst (λ (s : CoreState). AnyCaller s c.args.caller (MayCommit s.frame EveryMap [] c.args.entry.now)) (sym c.self.view_is) a)).allowance in
+    (subst (λ (s : CoreState). AnyCaller s c.args.caller (MayCommit s.frame EveryMap [] c.args.entry.now)) (sym c.self.view_is) a)).allowance in
     omega arith
 
 pub invariant_of-self-2 : goal.invariant_of-self-2

@@ -47,7 +47,7 @@ returns c =
     (λ b. Decides b (MayMake c.self.inside.frame (hand c.index-row.result.now) (map_after c.self.inside.frame [] (take c.index-row.result.now.base c.deref.result.now)) c.args.entry.now))
     (λ b. Decides b (AnyCaller c.args.self.now c.args.caller (MayCommit c.args.self.now.frame EveryMap [] c.args.entry.now)))
     (λ b d.
-        let t = commit_needs c.self.inside.frame c.self.inside.log.items c.index-row.result.now c.args.entry.now c.if-not-row.false room (take c.index-row.result.now.base c.deref.result.now) b same d in
-        subst (λ (s : CoreState). Decides b (AnyCaller s c.args.caller (MayCommit s.frame EveryMap [] c.args.entry.now))) c.self.view_is
-        (decides c.self.inside.log.items c.self.inside.rows.items c.args.caller c.index-row.result.now (search rules) c.index-row.ensures (MayCommit c.self.inside.frame EveryMap [] c.args.entry.now) b t.0 t.1))
+    let t = commit_needs c.self.inside.frame c.self.inside.log.items c.index-row.result.now c.args.entry.now c.if-not-row.false room (take c.index-row.result.now.base c.deref.result.now) b same d in
+    subst (λ (s : CoreState). Decides b (AnyCaller s c.args.caller (MayCommit s.frame EveryMap [] c.args.entry.now))) c.self.view_is
+    (decides c.self.inside.log.items c.self.inside.rows.items c.args.caller c.index-row.result.now (search rules) c.index-row.ensures (MayCommit c.self.inside.frame EveryMap [] c.args.entry.now) b t.0 t.1))
     c.may_make.ensures
