@@ -1,47 +1,40 @@
 -- A call that is committed: the rows show the callers of the rule once it stands in the history.
-use Rattle.std.proofs.Common.{◌≡◌, ℕ, ◌+◌, ◌-◌, ◌<◌, Bool, true, false, List, [], ◌∷◌, ◌++◌, length, length-append, map, set, get_or, take, zero, suc, refl, sym, ap, ◌∙◌, subst, arith, Decides, ◌&&◌}
+use Rattle.std.proofs.Common.{◌≡◌, ◌≢◌, ◌⊎◌, ℕ, ◌+◌, ◌-◌, ◌<◌, Bool, true, false, List, [], ◌∷◌, ◌++◌, length, length-append, map, filter, set, get_or, refl, sym, ap, ◌∙◌, subst, arith, Decides}
 use lib.ListN.{get_elem?}
 use mathlib.Core.Option.{some}
 use lib.Seq.{map-set}
-use Rattle.tk_model.specs.declared.record.Order.{Order}
 use Rattle.tk_model.specs.declared.record.Pair.{Pair}
 use Rattle.tk_model.specs.declared.record.Entry.{Entry}
 use Rattle.tk_model.specs.declared.record.Entry.TheVariants as entries
-use Rattle.tk_model.specs.Entries.{is_legal, legal, after_entry}
+use Rattle.tk_model.specs.Entries.{after_entry, changes_of, is_in_shard}
+use Rattle.tk_model.proofs.RecordLaws.{entries_rising}
+use Rattle.tk_model.specs.declared.record.Change.{Change}
 use Rattle.tk_core.specs.declared.frame.Frame.{Frame}
 use Rattle.tk_core.specs.declared.machine.Row.{Row}
 use Rattle.tk_core.specs.declared.moves.Move.TheVariants as moves
 use Rattle.tk_core.specs.Caller.{Caller}
-use Rattle.tk_core.specs.Commits.{hand, MayMake}
+use Rattle.tk_core.specs.Commits.{hand, records_of, after_call, MayWrite, MayMake}
+use Rattle.tk_core.specs.Covers.{CoversReads, CoversWrites}
 use Rattle.tk_core.specs.Moves.{committed}
 use Rattle.tk_core.specs.Needs.{MayCommit}
 use Rattle.tk_core.specs.Program.{CoreState, AnyCaller, IsCore, firsts, numbered, caller_of}
-use Rattle.tk_core.specs.Rule.{map_after}
-use Rattle.tk_core.proofs.Facts.{both}
+use Rattle.tk_core.specs.Rule.{map_after, shard, is_hard}
+use Rattle.tk_core.proofs.Calls.{Alike, call_alike, replay_snoc}
 use Rattle.tk_core.proofs.Histories.{Fits, within, firsts_all, at_end, at_mapped, elem_at, map_alike, numbered_longer, row_longer}
 use Rattle.tk_core.proofs.Rows.{IsDone, done, in_map, there, of_row}
 
 -- ---- what a caller may commit is what its row allows
 
-pub legal_front : (o : Order) (n : ℕ) (es : List Entry) (m : List Pair) → legal o m es ≡ true → legal o m (take n es) ≡ true
-legal_front o zero es m h = refl
-legal_front o (suc n) [] m h = refl
-legal_front o (suc n) (e ∷ es) m h = let t = both (is_legal o m e) (legal o (after_entry o e m) es) h in
-    ap (λ b. b && legal o (after_entry o e m) (take n es)) t.0 ∙ legal_front o n es (after_entry o e m) t.1
-
 -- the law of a core's stores, which each map meets
 abbrev pub EveryMap : List Pair → Type 0
 EveryMap m = true ≡ true
 
-module _ (f : Frame) (log : List Entry) (row : Row) (e : Entry) (live : row.live ≡ true) (room : 0 < row.allowance) where
-  abbrev made : List Pair → Type 0
-  made m = MayMake f (hand row) m e
-
-  pub commit_needs : (known : List Entry) (b : Bool) → firsts row.base log ≡ known → Decides b (made (map_after f [] known)) → Decides b (MayCommit f EveryMap [] e (caller_of log row))
-  commit_needs known b same d = let w = subst (λ (es : List Entry). Decides b (made (map_after f [] es))) (sym same) d in (
-    λ t. let h = w.0 t in record { live = live; allowance = room; fits = h.fits; keeps = λ n r l g. refl; reads = h.reads; writes = h.may_write.writes; out = h.may_write.out },
-    λ h. w.1 (record { fits = h.fits; reads = h.reads; may_write = record { writes = h.writes; out = h.out } }),
-  )
+-- what a call writes depends on its changes alone
+moved : (f : Frame) (r : Row) (log : List Entry) (m n : List Pair) (e : Entry) → changes_of f.order m e ≡ changes_of f.order n e → MayWrite f (hand r) m e → MayWrite f (caller_of log r) n e
+moved f r log m n e same w = record {
+  writes = subst (λ (cs : List Change). CoversWrites f r.held.items cs) same w.writes;
+  out = λ i low c. w.out i low (subst (λ (cs : List Change). (filter (is_in_shard (shard f i)) cs ≢ []) ⊎ (is_hard e ≡ true)) (sym same) c);
+}
 
 -- ---- the rows after it
 
@@ -56,6 +49,21 @@ module _ (f : Frame) (log : List Entry) (owners : List ℕ) (spoilt away : List 
 
     pub row_fits : (i : ℕ) (row : Row) → i < length rows → row ≡ get_or rows i row → Fits log row
     row_fits i row low is = all_fit i row (elem_at rows i row low is)
+
+    -- a call is on all records what it is on those that the caller knows
+    pub commit_needs : (i : ℕ) (row : Row) (e : Entry) (b : Bool) → i < length rows → row ≡ get_or rows i row → row.live ≡ true → 0 < row.allowance → Decides b (MayMake f (hand row) (map_after f [] log) e)
+        → Decides b (MayCommit f EveryMap [] e (caller_of log row))
+    commit_needs i row e b low is live room d =
+        let k = ok.sound.knows i (caller_of log row) (there log rows i row low is) in
+        let known : List Pair = map_after f [] (firsts row.base log) in
+        let all : List Pair = map_after f [] log in
+        let alike : CoversReads f row.held.items e → Alike f.order e known all = λ r.
+        call_alike f row.held.items ok.sound.frame known all (entries_rising f.order (firsts row.base log) [] tt) (entries_rising f.order log [] tt) k.still.records e r in (
+          λ t. let h = d.0 t in let a = alike h.reads in let w = moved f row log all known e (sym a.1) h.may_write in
+              record { live = live; allowance = room; fits = a.0 ∙ h.fits; keeps = λ n r l g. refl; reads = h.reads; writes = w.writes; out = w.out },
+          λ h. let a = alike h.reads in let w : MayWrite f (hand row) known e = record { writes = h.writes; out = h.out } in let u = moved f row [] known all e a.1 w in
+              d.1 (record { fits = sym a.0 ∙ h.fits; reads = h.reads; may_write = record { writes = u.writes; out = u.out } }),
+        )
 
     module _ (i : ℕ) (row new : Row) (is : row ≡ get_or rows i row) (e : Entry) (old : CoreState) (view : shown log rows ≡ old) where
       abbrev Need : CoreState → Type 0
@@ -87,3 +95,9 @@ fresh_row log row new e n fit at is mine =
     let mines : numbered (log ++ e ∷ []) new.mine.items ≡ (length log, e) ∷ numbered log row.mine.items =
     ap (numbered (log ++ e ∷ [])) mine ∙ (λ t. (at t, at_end log e entries.Clear n at t) ∷ numbered_longer log (e ∷ []) row.mine.items fit.mine t) in
     ap (caller_of (log ++ e ∷ [])) is ∙ (λ t. record (caller_of log row) { allowance = row.allowance - 1; seen = whole t; base = whole t; mine = mines t })
+
+-- the records after one more call
+pub records_more : (c : CoreState) (e : Entry) (f : Frame) (log : List Entry) → f ≡ c.frame → log ≡ c.log ++ e ∷ [] → after_call e (records_of c) ≡ record { order = f.order; pairs = map_after f [] log }
+records_more c e f log frame snoc =
+    let goes : after_entry c.frame.order e (map_after c.frame [] c.log) ≡ map_after c.frame [] (c.log ++ e ∷ []) = sym (replay_snoc c.frame.order c.log e []) in
+    (λ t. record { order = c.frame.order; pairs = goes t }) ∙ (λ t. record { order = (sym frame t).order; pairs = map_after (sym frame t) [] (sym snoc t) })

@@ -1,5 +1,5 @@
 -- Histories that are kept as lengths, and calls that are kept as numbers, stay as the history grows.
-use Rattle.std.proofs.Common.{◌≡◌, ℕ, zero, suc, ◌<◌, ◌≤◌, List, [], ◌∷◌, ◌++◌, length, length-append, map, get_or, take, refl, sym, ap, ◌∙◌, arith}
+use Rattle.std.proofs.Common.{◌≡◌, ℕ, zero, suc, ◌<◌, ◌≤◌, List, [], ◌∷◌, ◌++◌, length, length-append, map, get_or, refl, sym, ap, arith}
 use mathlib.Core.List.{IsPrefix}
 use mathlib.Core.Option.{some}
 use lib.ListN.{get_elem?}
@@ -10,7 +10,7 @@ use Rattle.tk_core.specs.Lists.{InPlace}
 use Rattle.tk_core.specs.Program.{firsts, numbered, caller_of}
 use Rattle.tk_core.proofs.Facts.{inside}
 
-pub firsts_length : (n : ℕ) (log : List Entry) → length (firsts n log) ≡ n
+firsts_length : (n : ℕ) (log : List Entry) → length (firsts n log) ≡ n
 firsts_length zero log = refl
 firsts_length (suc n) [] = ap suc (firsts_length n [])
 firsts_length (suc n) (e ∷ es) = ap suc (firsts_length n es)
@@ -20,11 +20,6 @@ firsts_all zero [] e = refl
 firsts_all zero (x ∷ xs) e = absurd (omega arith)
 firsts_all (suc n) [] e = absurd (omega arith)
 firsts_all (suc n) (x ∷ xs) e = ap (λ ys. x ∷ ys) (firsts_all n xs (omega arith))
-
-pub firsts_take : (n : ℕ) (log : List Entry) → n ≤ length log → firsts n log ≡ take n log
-firsts_take zero log h = refl
-firsts_take (suc n) [] h = absurd (omega arith)
-firsts_take (suc n) (x ∷ xs) h = ap (λ ys. x ∷ ys) (firsts_take n xs (omega arith))
 
 firsts_longer : (n : ℕ) (log es : List Entry) → n ≤ length log → firsts n (log ++ es) ≡ firsts n log
 firsts_longer zero log es h = refl
@@ -50,9 +45,6 @@ pub numbered_longer : (log es : List Entry) (ns : List ℕ) → InPlace log (num
 numbered_longer log es [] h = refl
 numbered_longer log es (n ∷ ns) h = let low = inside log n (get_or log n entries.Clear) h.0 in
     λ t. (n, at_front log es n entries.Clear low t) ∷ numbered_longer log es ns h.1 t
-
-pub take_length : (n : ℕ) (log : List Entry) → n ≤ length log → length (take n log) ≡ n
-take_length n log h = ap length (sym (firsts_take n log h)) ∙ firsts_length n log
 
 -- what is so of a row's caller for it to stay the same
 pub record Fits (log : List Entry) (r : Row) : Type 0 where

@@ -1,7 +1,8 @@
 -- What a call asks of what a caller holds, key by key.
 use Rattle.std.specs.Prelude.{◌≡◌, ◌||◌, ◌<◌, ℕ, Bool, true, false, List, [], ◌∷◌, is_some}
 use Rattle.tk_model.specs.Records.{find}
-use Rattle.tk_model.specs.Entries.{is_keep, is_legal, changes_of}
+use Rattle.tk_model.specs.Entries.{is_keep, is_legal, after_entry, changes_of}
+use Rattle.tk_model.specs.OrderedRecords.{OrderedRecords}
 use Rattle.tk_model.specs.declared.record.Action.{Action}
 use Rattle.tk_model.specs.declared.record.Pair.{Pair}
 use Rattle.tk_model.specs.declared.record.Touch.{Touch}
@@ -12,7 +13,8 @@ use Rattle.tk_core.specs.Lists.{has}
 use Rattle.tk_core.specs.Caller.{Caller, knows_broken}
 use Rattle.tk_core.specs.Covers.{CoversReads, CoversWrites, Writes, store_of}
 use Rattle.tk_core.specs.Needs.{Concerns}
-use Rattle.tk_core.specs.Program.{caller_of}
+use Rattle.tk_core.specs.Rule.{map_after}
+use Rattle.tk_core.specs.Program.{CoreState, caller_of}
 
 -- what a row holds: its caller, without the histories
 abbrev pub hand : Row → Caller
@@ -51,3 +53,10 @@ pub record MayMake (f : Frame) (v : Caller) (m : List Pair) (e : Entry) : Type 0
   pub fits : is_legal f.order m e ≡ true
   pub reads : CoversReads f v.held e
   pub may_write : MayWrite f v m e
+
+-- the records after the whole history
+abbrev pub records_of : CoreState → OrderedRecords
+records_of c = record { order = c.frame.order; pairs = map_after c.frame [] c.log }
+
+abbrev pub after_call : Entry → OrderedRecords → OrderedRecords
+after_call e r = record { order = r.order; pairs = after_entry r.order e r.pairs }

@@ -1,7 +1,7 @@
 //! The step of a call that is committed.
 ghost use Rattle.std.specs.Prelude.{◌≡◌, ◌&&◌, true, [], ◌∷◌, ◌++◌, not, IfOk, IfErr, OnOk, OnErr, Decides};
 ghost use Rattle.tk_model.specs.Entries.{is_keep, legal, after_entry, replay_entries};
-ghost use Rattle.tk_core.specs.Commits.{hand, is_there, MayAct, MayActEach, MayWrite, MayMake};
+ghost use Rattle.tk_core.specs.Commits.{hand, records_of, after_call, is_there, MayAct, MayActEach, MayWrite, MayMake};
 ghost use Rattle.tk_core.specs.Covers.{IsFrame, CoversReads};
 ghost use Rattle.tk_core.specs.Needs.{MayCommit};
 ghost use Rattle.tk_core.specs.Program.{IsAnswer, AnyCaller};
@@ -14,8 +14,16 @@ use std::alloc::Global;
 use tk_model::{Action, Entry, NoMemory, Order, Pair, PlainMap, Touch, value_at};
 
 impl Core {
-    fn may_commit(&self, alloc: Global, caller: u32, entry: &Entry) -> Result<bool, NoMemory>
-        ensures { IfOk result (λ may. Decides may (AnyCaller self.now caller (MayCommit self.now.frame (λ m. true ≡ true) [] entry.now))) }
+    /// Whether the caller may commit the call; if so, the records go on to those after it.
+    fn may_commit(
+        &self,
+        records: &mut PlainMap,
+        caller: u32,
+        entry: &Entry,
+    ) -> Result<bool, NoMemory>
+        requires { records.old ≡ records_of self.now }
+        ensures may { IfOk result (λ may. Decides may (AnyCaller self.now caller (MayCommit self.now.frame (λ m. true ≡ true) [] entry.now))) }
+        ensures after { IfOk result (λ may. may ≡ true → records.new ≡ after_call entry.now (records_of self.now)) }
     {
         let at = caller as usize;
         if at >= self.rows.len() {
@@ -28,20 +36,22 @@ impl Core {
         if row.allowance == 0 {
             return Ok(false);
         }
-        may_make(alloc, self.frame, row, &self.log[..row.base], entry)
+        may_make(self.frame, row, records, entry)
     }
 
     /// The call gets the next number of the history.
     pub(crate) fn commit(
         &mut self,
-        alloc: Global,
+        records: &mut PlainMap,
         caller: u32,
         entry: &Entry,
     ) -> Result<bool, NoMemory>
+        requires { records.old ≡ records_of self.old }
         ensures answer { IfOk result (λ done. IsAnswer (moves.Commit caller entry.now) self.old self.new done) }
+        ensures records { IfOk result (λ done. done ≡ true → records.new ≡ records_of self.new) }
         ensures want { IfErr result (λ e. self.new ≡ self.old) }
     {
-        if !self.may_commit(alloc, caller, entry)? {
+        if !self.may_commit(records, caller, entry)? {
             return Ok(false);
         }
         let number = self.log.len();
@@ -68,7 +78,7 @@ fn push_copy(log: &mut Vec<Entry>, entry: &Entry) -> Result<(), NoMemory>
 }
 
 /// The records after a history that is legal.
-fn replay(alloc: Global, order: Order, history: &[Entry]) -> Result<PlainMap, NoMemory>
+pub(crate) fn replay(alloc: Global, order: Order, history: &[Entry]) -> Result<PlainMap, NoMemory>
     requires { legal order [] history.now ≡ true }
     ensures { IfOk result (λ map. map ≡ record { order = order; pairs = replay_entries order history.now [] }) }
 {
@@ -148,25 +158,30 @@ fn may_write(frame: Frame, row: &Row, before: &[Pair], after: &[Pair], entry: &E
     }
 }
 
-/// Whether the call may be made by a caller that knows this history, which is legal.
+/// Whether the call may be made on these records; if so, they go on to those after it.
 fn may_make(
-    alloc: Global,
     frame: Frame,
     row: &Row,
-    history: &[Entry],
+    records: &mut PlainMap,
     entry: &Entry,
 ) -> Result<bool, NoMemory>
     requires frame { IsFrame frame }
-    requires history { legal frame.order [] history.now ≡ true }
-    ensures { IfOk result (λ may. Decides may (MayMake frame (hand row.now) (replay_entries frame.order history.now []) entry.now)) }
+    requires order { records.old.order ≡ frame.order }
+    ensures may { IfOk result (λ may. Decides may (MayMake frame (hand row.now) records.old.pairs entry.now)) }
+    ensures after { IfOk result (λ may. may ≡ true → records.new ≡ after_call entry.now records.old) }
 {
     if !covers_reads(frame, &row.held, entry) {
         return Ok(false);
     }
-    let mut map = replay(alloc, frame.order, history)?;
-    let before = map.pairs().clone()?;
-    if !map.run(entry)? {
+    let before = records.pairs().clone()?;
+    if !records.run(entry)? {
         return Ok(false);
     }
-    Ok(may_write(frame, row, before.as_slice(), map.pairs().as_slice(), entry))
+    Ok(may_write(
+        frame,
+        row,
+        before.as_slice(),
+        records.pairs().as_slice(),
+        entry,
+    ))
 }

@@ -1,23 +1,29 @@
 //! Lists of moves.
-ghost use Rattle.std.specs.Prelude.{◌≡◌, ◌≤◌, ℕ, length, take, IfOk, IfErr};
+ghost use Rattle.std.specs.Prelude.{◌≡◌, ◌≤◌, ℕ, true, length, take, IfOk, IfErr};
+ghost use Rattle.tk_core.specs.Commits.{records_of};
 ghost use Rattle.tk_core.specs.Program.{IsAnswer, state_of};
 ghost use Rattle.tk_core.specs.Rings.{HasNoRing};
 ghost use Rattle.tk_core.specs.States.{IsSound};
 ghost use Rattle.tk_core.specs.Steps.{Runs, RunsFar};
 
+use crate::commit::replay;
 use crate::{Core, Move, MoveList};
 use std::alloc::Global;
-use tk_model::NoMemory;
+use tk_model::{NoMemory, PlainMap};
 
 impl Core {
-    fn step(&mut self, alloc: Global, next: &Move) -> Result<bool, NoMemory>
+    #[tactic(auto, using(crate::proofs::RunRows::records_stay))]
+    /// Does one move; the records are those after the whole history.
+    fn step(&mut self, alloc: Global, records: &mut PlainMap, next: &Move) -> Result<bool, NoMemory>
+        requires { records.old ≡ records_of self.old }
         ensures answer { IfOk result (λ done. IsAnswer next.now self.old self.new done) }
+        ensures records { IfOk result (λ done. done ≡ true → records.new ≡ records_of self.new) }
         ensures want { IfErr result (λ e. self.new ≡ self.old) }
     {
         match next {
             Move::Take { caller, lock } => self.take(*caller, *lock),
             Move::Miss { caller, lock } => Ok(self.miss(*caller, *lock)),
-            Move::Commit { caller, entry } => self.commit(alloc, *caller, entry),
+            Move::Commit { caller, entry } => self.commit(records, *caller, entry),
             Move::Give { caller, lock } => self.give(*caller, *lock),
             Move::Look { caller } => Ok(self.look(*caller)),
             Move::Out { caller, store } => self.take_out(*caller, *store),
@@ -39,10 +45,10 @@ impl Core {
         ensures sound { IsSound self.new.frame (state_of self.new) }
         ensures no_ring { HasNoRing self.new.callers }
     {
-        let _ = &self.frame;
+        let mut records = replay(alloc, self.frame.order, &self.log)?;
         let mut done = 0;
         for next in moves.as_slice() {
-            if !self.step(alloc, next)? {
+            if !self.step(alloc, &mut records, next)? {
                 return Ok(done);
             }
             done += 1;

@@ -6,19 +6,19 @@ use Rattle.tk_core.specs.Needs.{MayCommit}
 use Rattle.tk_core.specs.Program.{CoreState, AnyCaller, IsCore, numbered, caller_of}
 use Rattle.tk_core.proofs.Histories.{Fits}
 use Rattle.tk_core.proofs.Rows.{in_map, unchanged, of_row}
-use Rattle.tk_core.proofs.CommitRows.{EveryMap, shown, row_fits, commit_done, fresh_row}
+use Rattle.tk_core.proofs.CommitRows.{EveryMap, shown, row_fits, commit_done, fresh_row, records_more}
 use Rattle.tk_core.proofs.machine.Core.commit.Goals as goal
 
 pub index_mut-row-requires : goal.index_mut-row-requires
 index_mut-row-requires c =
-    let a : AnyCaller c.args.self.now c.args.caller (MayCommit c.args.self.now.frame EveryMap [] c.args.entry.now) = c.in_ok-may_commit.ensures.0 c.if-not-branch.false in
+    let a : AnyCaller c.args.self.now c.args.caller (MayCommit c.args.self.now.frame EveryMap [] c.args.entry.now) = c.in_ok-may_commit.ensures.may.0 c.if-not-branch.false in
     let low : c.args.caller < length c.self.inside.rows.items = in_map (caller_of c.self.inside.log.items) c.self.inside.rows.items c.args.caller _ (subst (λ (s : CoreState). AnyCaller s c.args.caller (MayCommit s.frame EveryMap [] c.args.entry.now)) (sym c.self.view_is) a).1 in
     let l = c.self.inside.rows.ok.0 in
     search rules
 
 pub invariant_of-self : goal.invariant_of-self
 invariant_of-self c =
-    let a : AnyCaller c.args.self.now c.args.caller (MayCommit c.args.self.now.frame EveryMap [] c.args.entry.now) = c.in_ok-may_commit.ensures.0 c.if-not-branch.false in
+    let a : AnyCaller c.args.self.now c.args.caller (MayCommit c.args.self.now.frame EveryMap [] c.args.entry.now) = c.in_ok-may_commit.ensures.may.0 c.if-not-branch.false in
     let old : Row = c.index_mut-row.result.now in
     let same = unchanged c.self.inside.frame c.self.inside.log.items c.self.inside.owners.items c.self.inside.spoilt.items c.self.inside.away.items c.self.inside.rows.items c.args.caller old (record old { mine = c.insert.new.self }) c.index_mut-row.ensures.value
     c.args.self.now c.self.view_is c.self.invariant (a.0, a.1, tt) (λ t. record (caller_of c.self.inside.log.items old) { mine = numbered c.self.inside.log.items (c.in_err-insert.ensures.items t) }) in
@@ -26,7 +26,7 @@ invariant_of-self c =
 
 pub returns-in_err-insert-clause-want : goal.returns-in_err-insert-clause-want
 returns-in_err-insert-clause-want c =
-    let a : AnyCaller c.args.self.now c.args.caller (MayCommit c.args.self.now.frame EveryMap [] c.args.entry.now) = c.in_ok-may_commit.ensures.0 c.if-not-branch.false in
+    let a : AnyCaller c.args.self.now c.args.caller (MayCommit c.args.self.now.frame EveryMap [] c.args.entry.now) = c.in_ok-may_commit.ensures.may.0 c.if-not-branch.false in
     let old : Row = c.index_mut-row.result.now in
     let same = unchanged c.self.inside.frame c.self.inside.log.items c.self.inside.owners.items c.self.inside.spoilt.items c.self.inside.away.items c.self.inside.rows.items c.args.caller old (record old { mine = c.insert.new.self }) c.index_mut-row.ensures.value
     c.args.self.now c.self.view_is c.self.invariant (a.0, a.1, tt) (λ t. record (caller_of c.self.inside.log.items old) { mine = numbered c.self.inside.log.items (c.in_err-insert.ensures.items t) }) in
@@ -34,7 +34,7 @@ returns-in_err-insert-clause-want c =
 
 pub invariant_of-self-in-Err : goal.invariant_of-self-in-Err
 invariant_of-self-in-Err c =
-    let a : AnyCaller c.args.self.now c.args.caller (MayCommit c.args.self.now.frame EveryMap [] c.args.entry.now) = c.in_ok-may_commit.ensures.0 c.if-not-branch.false in
+    let a : AnyCaller c.args.self.now c.args.caller (MayCommit c.args.self.now.frame EveryMap [] c.args.entry.now) = c.in_ok-may_commit.ensures.may.0 c.if-not-branch.false in
     let old : Row = c.index_mut-row.result.now in
     let mine : c.remove.new.self.items ≡ old.mine.items = c.remove.ensures.items ∙ ap (drop 1) c.in_ok-insert.ensures.items in
     let new : Row = record old { mine = c.remove.new.self } in
@@ -45,7 +45,7 @@ invariant_of-self-in-Err c =
 
 pub returns-in-Err-clause-want : goal.returns-in-Err-clause-want
 returns-in-Err-clause-want c =
-    let a : AnyCaller c.args.self.now c.args.caller (MayCommit c.args.self.now.frame EveryMap [] c.args.entry.now) = c.in_ok-may_commit.ensures.0 c.if-not-branch.false in
+    let a : AnyCaller c.args.self.now c.args.caller (MayCommit c.args.self.now.frame EveryMap [] c.args.entry.now) = c.in_ok-may_commit.ensures.may.0 c.if-not-branch.false in
     let old : Row = c.index_mut-row.result.now in
     let mine : c.remove.new.self.items ≡ old.mine.items = c.remove.ensures.items ∙ ap (drop 1) c.in_ok-insert.ensures.items in
     let new : Row = record old { mine = c.remove.new.self } in
@@ -56,7 +56,7 @@ returns-in-Err-clause-want c =
 
 pub overflow_sub-row : goal.overflow_sub-row
 overflow_sub-row c =
-    let a : AnyCaller c.args.self.now c.args.caller (MayCommit c.args.self.now.frame EveryMap [] c.args.entry.now) = c.in_ok-may_commit.ensures.0 c.if-not-branch.false in
+    let a : AnyCaller c.args.self.now c.args.caller (MayCommit c.args.self.now.frame EveryMap [] c.args.entry.now) = c.in_ok-may_commit.ensures.may.0 c.if-not-branch.false in
     let old : Row = c.index_mut-row.result.now in
     let low : c.args.caller < length c.self.inside.rows.items = in_map (caller_of c.self.inside.log.items) c.self.inside.rows.items c.args.caller _ (subst (λ (s : CoreState). AnyCaller s c.args.caller (MayCommit s.frame EveryMap [] c.args.entry.now)) (sym c.self.view_is) a).1 in
     let m : 0 < old.allowance = (of_row c.self.inside.log.items c.self.inside.rows.items c.args.caller old low c.index_mut-row.ensures.value (MayCommit c.self.inside.frame EveryMap [] c.args.entry.now)
@@ -65,7 +65,7 @@ overflow_sub-row c =
 
 pub invariant_of-self-2 : goal.invariant_of-self-2
 invariant_of-self-2 c =
-    let a : AnyCaller c.args.self.now c.args.caller (MayCommit c.args.self.now.frame EveryMap [] c.args.entry.now) = c.in_ok-may_commit.ensures.0 c.if-not-branch.false in
+    let a : AnyCaller c.args.self.now c.args.caller (MayCommit c.args.self.now.frame EveryMap [] c.args.entry.now) = c.in_ok-may_commit.ensures.may.0 c.if-not-branch.false in
     let old : Row = c.index_mut-row.result.now in
     let low : c.args.caller < length c.self.inside.rows.items = in_map (caller_of c.self.inside.log.items) c.self.inside.rows.items c.args.caller _ (subst (λ (s : CoreState). AnyCaller s c.args.caller (MayCommit s.frame EveryMap [] c.args.entry.now)) (sym c.self.view_is) a).1 in
     let new : Row = record old { allowance = old.allowance - 1; seen = c.len-number.result + 1; base = c.len-number.result + 1; mine = c.insert.new.self } in
@@ -77,7 +77,7 @@ invariant_of-self-2 c =
 
 pub returns-clause-answer : goal.returns-clause-answer
 returns-clause-answer c =
-    let a : AnyCaller c.args.self.now c.args.caller (MayCommit c.args.self.now.frame EveryMap [] c.args.entry.now) = c.in_ok-may_commit.ensures.0 c.if-not-branch.false in
+    let a : AnyCaller c.args.self.now c.args.caller (MayCommit c.args.self.now.frame EveryMap [] c.args.entry.now) = c.in_ok-may_commit.ensures.may.0 c.if-not-branch.false in
     let old : Row = c.index_mut-row.result.now in
     let low : c.args.caller < length c.self.inside.rows.items = in_map (caller_of c.self.inside.log.items) c.self.inside.rows.items c.args.caller _ (subst (λ (s : CoreState). AnyCaller s c.args.caller (MayCommit s.frame EveryMap [] c.args.entry.now)) (sym c.self.view_is) a).1 in
     let new : Row = record old { allowance = old.allowance - 1; seen = c.len-number.result + 1; base = c.len-number.result + 1; mine = c.insert.new.self } in
@@ -86,3 +86,8 @@ returns-clause-answer c =
     let fresh : caller_of (c.self.inside.log.items ++ c.args.entry.now ∷ []) new ≡ committed c.self.inside.log.items c.args.entry.now (caller_of c.self.inside.log.items old) =
     fresh_row c.self.inside.log.items old new c.args.entry.now c.len-number.result fit n refl c.in_ok-insert.ensures.items in
     (commit_done c.self.inside.frame c.self.inside.log.items c.self.inside.owners.items c.self.inside.spoilt.items c.self.inside.away.items c.self.inside.rows.items c.self.invariant c.args.caller old new c.index_mut-row.ensures.value c.args.entry.now c.args.self.now c.self.view_is a c.push_copy.new.log.items c.in_default.ensures.ok fresh).answer
+
+pub returns-clause-records : goal.returns-clause-records
+returns-clause-records c = λ _.
+    let log : c.push_copy.new.log.items ≡ c.args.self.now.log ++ c.args.entry.now ∷ [] = c.in_default.ensures.ok ∙ ap (λ (s : CoreState). s.log ++ c.args.entry.now ∷ []) c.self.view_is in
+    c.in_ok-may_commit.ensures.after c.if-not-branch.false ∙ records_more c.args.self.now c.args.entry.now c.self.inside.frame c.push_copy.new.log.items (ap (λ (s : CoreState). s.frame) c.self.view_is) log
