@@ -12,7 +12,6 @@ use Rattle.tk_model.specs.declared.record.Change.{Change}
 use Rattle.tk_core.specs.declared.frame.Frame.{Frame}
 use Rattle.tk_core.specs.declared.machine.Row.{Row}
 use Rattle.tk_core.specs.declared.moves.Move.TheVariants as moves
-use Rattle.tk_core.specs.Caller.{Caller}
 use Rattle.tk_core.specs.Commits.{hand, records_of, after_call, MayWrite, MayMake}
 use Rattle.tk_core.specs.Covers.{CoversReads, CoversWrites}
 use Rattle.tk_core.specs.Moves.{committed}
@@ -21,7 +20,7 @@ use Rattle.tk_core.specs.Program.{CoreState, AnyCaller, IsCore, firsts, numbered
 use Rattle.tk_core.specs.Rule.{map_after, shard, is_hard}
 use Rattle.tk_core.proofs.Calls.{Alike, call_alike, replay_snoc}
 use Rattle.tk_core.proofs.Histories.{Fits, within, firsts_all, at_end, at_mapped, elem_at, map_alike, numbered_longer, row_longer}
-use Rattle.tk_core.proofs.Rows.{IsDone, done, in_map, there, of_row}
+use Rattle.tk_core.proofs.Rows.{IsDone, done, in_map, there, of_row, unchanged}
 
 -- ---- what a caller may commit is what its row allows
 
@@ -38,16 +37,26 @@ moved f r log m n e same w = record {
 
 -- ---- the rows after it
 
+-- the row of the caller that made it
+fresh_row : (log : List Entry) (row new : Row) (e : Entry) (n : ℕ) → Fits log row → n ≡ length log → new ≡ record row { allowance = row.allowance - 1; seen = n + 1; base = n + 1; mine = new.mine } → new.mine.items ≡ n ∷ row.mine.items
+    → caller_of (log ++ e ∷ []) new ≡ committed log e (caller_of log row)
+fresh_row log row new e n fit at is mine =
+    let len : length (log ++ e ∷ []) ≡ length log + 1 = length-append log (e ∷ []) in
+    let whole : firsts (n + 1) (log ++ e ∷ []) ≡ log ++ e ∷ [] = firsts_all (n + 1) (log ++ e ∷ []) (omega arith) in
+    let mines : numbered (log ++ e ∷ []) new.mine.items ≡ (length log, e) ∷ numbered log row.mine.items =
+    ap (numbered (log ++ e ∷ [])) mine ∙ (λ t. (at t, at_end log e entries.Clear n at t) ∷ numbered_longer log (e ∷ []) row.mine.items fit.mine t) in
+    ap (caller_of (log ++ e ∷ [])) is ∙ (λ t. record (caller_of log row) { allowance = row.allowance - 1; seen = whole t; base = whole t; mine = mines t })
+
 module _ (f : Frame) (log : List Entry) (owners : List ℕ) (spoilt away : List Bool) (rows : List Row) where
   abbrev pub shown : List Entry → List Row → CoreState
   shown es rs = record { frame = f; log = es; owners = owners; spoilt = spoilt; away = away; callers = map (caller_of es) rs }
 
   module _ (ok : IsCore (shown log rows)) where
-    pub all_fit : (j : ℕ) (r : Row) → get_elem? rows j ≡ some r → Fits log r
+    all_fit : (j : ℕ) (r : Row) → get_elem? rows j ≡ some r → Fits log r
     all_fit j r at = let k = ok.sound.knows j (caller_of log r) (at_mapped (caller_of log) rows j r at) in
         record { seen = within r.seen log k.seen; base = within r.base log k.base; mine = k.placed }
 
-    pub row_fits : (i : ℕ) (row : Row) → i < length rows → row ≡ get_or rows i row → Fits log row
+    row_fits : (i : ℕ) (row : Row) → i < length rows → row ≡ get_or rows i row → Fits log row
     row_fits i row low is = all_fit i row (elem_at rows i row low is)
 
     -- a call is on all records what it is on those that the caller knows
@@ -65,36 +74,47 @@ module _ (f : Frame) (log : List Entry) (owners : List ℕ) (spoilt away : List 
               d.1 (record { fits = sym a.0 ∙ h.fits; reads = h.reads; may_write = record { writes = u.writes; out = u.out } }),
         )
 
-    module _ (i : ℕ) (row new : Row) (is : row ≡ get_or rows i row) (e : Entry) (old : CoreState) (view : shown log rows ≡ old) where
-      abbrev Need : CoreState → Type 0
-      Need s = AnyCaller s i (MayCommit s.frame EveryMap [] e)
+    module _ (i : ℕ) (e : Entry) (old : CoreState) (view : shown log rows ≡ old) where
+      abbrev May : CoreState → Type 0
+      May s = AnyCaller s i (MayCommit s.frame EveryMap [] e)
 
-      pub commit_done : Need old → (es : List Entry) → es ≡ log ++ e ∷ [] → caller_of (log ++ e ∷ []) new ≡ committed log e (caller_of log row) → IsDone (moves.Commit i e) old (shown es (set rows i new))
-      commit_done b es snoc fresh =
-          let P : Caller → Type 0 = MayCommit f EveryMap [] e in
-          let a : Need (shown log rows) = subst Need (sym view) b in
-          let low : i < length rows = in_map (caller_of log) rows i a.0 a.1 in
-          let callers : map (caller_of es) (set rows i new) ≡ set (map (caller_of log) rows) i (committed log e (caller_of log row)) =
-          ap (λ (l : List Entry). map (caller_of l) (set rows i new)) snoc ∙ map-set (caller_of (log ++ e ∷ [])) rows i new
-          ∙ (λ t. set (map_alike (caller_of (log ++ e ∷ [])) (caller_of log) rows (λ j r at. row_longer log (e ∷ []) r (all_fit j r at)) t) i (fresh t)) in
-          subst (λ (s : CoreState). IsDone (moves.Commit i e) s (shown es (set rows i new))) view
-          (done (moves.Commit i e) (shown log rows) (shown es (set rows i new)) ok refl refl refl refl
-          (record {
-            caller = caller_of log row;
-            is_caller = there log rows i row low is;
-            needs = of_row log rows i row low is P a;
-            after = λ t. record { law = λ m. true; first = []; log = snoc t; owner = λ l. get_or owners l 0; spoilt = λ q. get_or spoilt q false; away = λ q. get_or away q false; stands = λ q gs n. true; callers = callers t };
-          }))
+      shows_may : May old → May (shown log rows)
+      shows_may = subst May (sym view)
 
--- the row of the caller that made it
-pub fresh_row : (log : List Entry) (row new : Row) (e : Entry) (n : ℕ) → Fits log row → n ≡ length log → new ≡ record row { allowance = row.allowance - 1; seen = n + 1; base = n + 1; mine = new.mine } → new.mine.items ≡ n ∷ row.mine.items
-    → caller_of (log ++ e ∷ []) new ≡ committed log e (caller_of log row)
-fresh_row log row new e n fit at is mine =
-    let len : length (log ++ e ∷ []) ≡ length log + 1 = length-append log (e ∷ []) in
-    let whole : firsts (n + 1) (log ++ e ∷ []) ≡ log ++ e ∷ [] = firsts_all (n + 1) (log ++ e ∷ []) (omega arith) in
-    let mines : numbered (log ++ e ∷ []) new.mine.items ≡ (length log, e) ∷ numbered log row.mine.items =
-    ap (numbered (log ++ e ∷ [])) mine ∙ (λ t. (at t, at_end log e entries.Clear n at t) ∷ numbered_longer log (e ∷ []) row.mine.items fit.mine t) in
-    ap (caller_of (log ++ e ∷ [])) is ∙ (λ t. record (caller_of log row) { allowance = row.allowance - 1; seen = whole t; base = whole t; mine = mines t })
+      -- what shows the same meets the rule still
+      pub still_core : (d : CoreState) → d ≡ old → IsCore d
+      still_core d same = subst IsCore (view ∙ sym same) ok
+
+      pub in_rows : May old → i < length rows
+      in_rows b = let a = shows_may b in in_map (caller_of log) rows i a.0 a.1
+
+      module _ (b : May old) (row new : Row) (is : row ≡ get_or rows i row) where
+        needs : MayCommit f EveryMap [] e (caller_of log row)
+        needs = of_row log rows i row (in_rows b) is (MayCommit f EveryMap [] e) (shows_may b)
+
+        pub room : 0 < row.allowance
+        room = needs.allowance
+
+        -- nothing changed, where memory was wanted
+        pub undone : (es : List Entry) → es ≡ log → new ≡ record row { mine = new.mine } → new.mine.items ≡ row.mine.items → shown es (set rows i new) ≡ old
+        undone es back only mine = ap (λ (l : List Entry). shown l (set rows i new)) back
+            ∙ unchanged f log owners spoilt away rows i row new is old view ok (b.0, b.1, tt) (ap (caller_of log) only ∙ (λ t. record (caller_of log row) { mine = numbered log (mine t) }))
+
+        pub did : (es : List Entry) (n : ℕ) → es ≡ log ++ e ∷ [] → n ≡ length log → new ≡ record row { allowance = row.allowance - 1; seen = n + 1; base = n + 1; mine = new.mine } → new.mine.items ≡ n ∷ row.mine.items
+            → IsDone (moves.Commit i e) old (shown es (set rows i new))
+        did es n snoc len only mine =
+            let fresh : caller_of (log ++ e ∷ []) new ≡ committed log e (caller_of log row) = fresh_row log row new e n (row_fits i row (in_rows b) is) len only mine in
+            let callers : map (caller_of es) (set rows i new) ≡ set (map (caller_of log) rows) i (committed log e (caller_of log row)) =
+            ap (λ (l : List Entry). map (caller_of l) (set rows i new)) snoc ∙ map-set (caller_of (log ++ e ∷ [])) rows i new
+            ∙ (λ t. set (map_alike (caller_of (log ++ e ∷ [])) (caller_of log) rows (λ j r at. row_longer log (e ∷ []) r (all_fit j r at)) t) i (fresh t)) in
+            subst (λ (s : CoreState). IsDone (moves.Commit i e) s (shown es (set rows i new))) view
+            (done (moves.Commit i e) (shown log rows) (shown es (set rows i new)) ok refl refl refl refl
+            (record {
+              caller = caller_of log row;
+              is_caller = there log rows i row (in_rows b) is;
+              needs = needs;
+              after = λ t. record { law = λ m. true; first = []; log = snoc t; owner = λ l. get_or owners l 0; spoilt = λ q. get_or spoilt q false; away = λ q. get_or away q false; stands = λ q gs n. true; callers = callers t };
+            }))
 
 -- the records after one more call
 pub records_more : (c : CoreState) (e : Entry) (f : Frame) (log : List Entry) → f ≡ c.frame → log ≡ c.log ++ e ∷ [] → after_call e (records_of c) ≡ record { order = f.order; pairs = map_after f [] log }

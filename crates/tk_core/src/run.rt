@@ -12,7 +12,6 @@ use std::alloc::Global;
 use tk_model::{NoMemory, PlainMap};
 
 impl Core {
-    #[tactic(auto, using(crate::proofs::RunRows::records_stay))]
     /// Does one move; the records are those after the whole history.
     fn step(&mut self, alloc: Global, records: &mut PlainMap, next: &Move) -> Result<bool, NoMemory>
         requires { records.old ≡ records_of self.old }

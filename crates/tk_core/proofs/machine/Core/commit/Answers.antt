@@ -1,91 +1,52 @@
-use Rattle.std.proofs.Common.{rules, ◌≡◌, ◌<◌, ◌+◌, ◌-◌, [], ◌∷◌, ◌++◌, length, set, drop, List, refl, sym, ap, subst, ◌∙◌, arith}
-use Rattle.tk_model.specs.declared.record.Entry.{Entry}
-use Rattle.tk_core.specs.declared.machine.Row.{Row}
-use Rattle.tk_core.specs.Moves.{committed}
-use Rattle.tk_core.specs.Needs.{MayCommit}
-use Rattle.tk_core.specs.Program.{CoreState, AnyCaller, IsCore, numbered, caller_of}
-use Rattle.tk_core.proofs.Histories.{Fits}
-use Rattle.tk_core.proofs.Rows.{in_map, unchanged, of_row}
-use Rattle.tk_core.proofs.CommitRows.{EveryMap, shown, row_fits, commit_done, fresh_row, records_more}
+use Rattle.std.proofs.Common.{rules, ◌≡◌, ◌<◌, ◌+◌, ◌-◌, [], ◌∷◌, ◌++◌, length, drop, refl, ap, ◌∙◌, arith}
+use Rattle.tk_core.specs.Program.{CoreState}
+use Rattle.tk_core.proofs.CommitRows.{still_core, in_rows, room, undone, did, records_more}
 use Rattle.tk_core.proofs.machine.Core.commit.Goals as goal
 
 pub index_mut-row-requires : goal.index_mut-row-requires
 index_mut-row-requires c =
-    let a : AnyCaller c.args.self.now c.args.caller (MayCommit c.args.self.now.frame EveryMap [] c.args.entry.now) = c.in_ok-may_commit.ensures.may.0 c.if-not-branch.false in
-    let low : c.args.caller < length c.self.inside.rows.items = in_map (caller_of c.self.inside.log.items) c.self.inside.rows.items c.args.caller _ (subst (λ (s : CoreState). AnyCaller s c.args.caller (MayCommit s.frame EveryMap [] c.args.entry.now)) (sym c.self.view_is) a).1 in
+    let low : c.args.caller < length c.self.inside.rows.items = in_rows c.self.inside.frame c.self.inside.log.items c.self.inside.owners.items c.self.inside.spoilt.items c.self.inside.away.items c.self.inside.rows.items c.self.invariant c.args.caller c.args.entry.now c.args.self.now c.self.view_is (c.in_ok-may_commit.ensures.may.0 c.if-not-branch.false) in
     let l = c.self.inside.rows.ok.0 in
     search rules
 
 pub invariant_of-self : goal.invariant_of-self
 invariant_of-self c =
-    let a : AnyCaller c.args.self.now c.args.caller (MayCommit c.args.self.now.frame EveryMap [] c.args.entry.now) = c.in_ok-may_commit.ensures.may.0 c.if-not-branch.false in
-    let old : Row = c.index_mut-row.result.now in
-    let same = unchanged c.self.inside.frame c.self.inside.log.items c.self.inside.owners.items c.self.inside.spoilt.items c.self.inside.away.items c.self.inside.rows.items c.args.caller old (record old { mine = c.insert.new.self }) c.index_mut-row.ensures.value
-    c.args.self.now c.self.view_is c.self.invariant (a.0, a.1, tt) (λ t. record (caller_of c.self.inside.log.items old) { mine = numbered c.self.inside.log.items (c.in_err-insert.ensures.items t) }) in
-    subst IsCore (c.self.view_is ∙ sym same) c.self.invariant
+    still_core c.self.inside.frame c.self.inside.log.items c.self.inside.owners.items c.self.inside.spoilt.items c.self.inside.away.items c.self.inside.rows.items c.self.invariant c.args.caller c.args.entry.now c.args.self.now c.self.view_is _
+    (undone c.self.inside.frame c.self.inside.log.items c.self.inside.owners.items c.self.inside.spoilt.items c.self.inside.away.items c.self.inside.rows.items c.self.invariant c.args.caller c.args.entry.now c.args.self.now c.self.view_is
+    (c.in_ok-may_commit.ensures.may.0 c.if-not-branch.false) c.index_mut-row.result.now (record c.index_mut-row.result.now { mine = c.insert.new.self }) c.index_mut-row.ensures.value c.self.inside.log.items refl refl c.in_err-insert.ensures.items)
 
 pub returns-in_err-insert-clause-want : goal.returns-in_err-insert-clause-want
 returns-in_err-insert-clause-want c =
-    let a : AnyCaller c.args.self.now c.args.caller (MayCommit c.args.self.now.frame EveryMap [] c.args.entry.now) = c.in_ok-may_commit.ensures.may.0 c.if-not-branch.false in
-    let old : Row = c.index_mut-row.result.now in
-    let same = unchanged c.self.inside.frame c.self.inside.log.items c.self.inside.owners.items c.self.inside.spoilt.items c.self.inside.away.items c.self.inside.rows.items c.args.caller old (record old { mine = c.insert.new.self }) c.index_mut-row.ensures.value
-    c.args.self.now c.self.view_is c.self.invariant (a.0, a.1, tt) (λ t. record (caller_of c.self.inside.log.items old) { mine = numbered c.self.inside.log.items (c.in_err-insert.ensures.items t) }) in
+    let same = undone c.self.inside.frame c.self.inside.log.items c.self.inside.owners.items c.self.inside.spoilt.items c.self.inside.away.items c.self.inside.rows.items c.self.invariant c.args.caller c.args.entry.now c.args.self.now c.self.view_is
+    (c.in_ok-may_commit.ensures.may.0 c.if-not-branch.false) c.index_mut-row.result.now (record c.index_mut-row.result.now { mine = c.insert.new.self }) c.index_mut-row.ensures.value c.self.inside.log.items refl refl c.in_err-insert.ensures.items in
     search rules
 
 pub invariant_of-self-in-Err : goal.invariant_of-self-in-Err
 invariant_of-self-in-Err c =
-    let a : AnyCaller c.args.self.now c.args.caller (MayCommit c.args.self.now.frame EveryMap [] c.args.entry.now) = c.in_ok-may_commit.ensures.may.0 c.if-not-branch.false in
-    let old : Row = c.index_mut-row.result.now in
-    let mine : c.remove.new.self.items ≡ old.mine.items = c.remove.ensures.items ∙ ap (drop 1) c.in_ok-insert.ensures.items in
-    let new : Row = record old { mine = c.remove.new.self } in
-    let same = unchanged c.self.inside.frame c.self.inside.log.items c.self.inside.owners.items c.self.inside.spoilt.items c.self.inside.away.items c.self.inside.rows.items c.args.caller old new c.index_mut-row.ensures.value
-    c.args.self.now c.self.view_is c.self.invariant (a.0, a.1, tt) (λ t. record (caller_of c.self.inside.log.items old) { mine = numbered c.self.inside.log.items (mine t) }) in
-    let undone = ap (λ (es : List Entry). shown c.self.inside.frame c.self.inside.log.items c.self.inside.owners.items c.self.inside.spoilt.items c.self.inside.away.items c.self.inside.rows.items es (set c.self.inside.rows.items c.args.caller new)) c.in-Err.ensures.err ∙ same in
-    subst IsCore (c.self.view_is ∙ sym undone) c.self.invariant
+    still_core c.self.inside.frame c.self.inside.log.items c.self.inside.owners.items c.self.inside.spoilt.items c.self.inside.away.items c.self.inside.rows.items c.self.invariant c.args.caller c.args.entry.now c.args.self.now c.self.view_is _
+    (undone c.self.inside.frame c.self.inside.log.items c.self.inside.owners.items c.self.inside.spoilt.items c.self.inside.away.items c.self.inside.rows.items c.self.invariant c.args.caller c.args.entry.now c.args.self.now c.self.view_is
+    (c.in_ok-may_commit.ensures.may.0 c.if-not-branch.false) c.index_mut-row.result.now (record c.index_mut-row.result.now { mine = c.remove.new.self }) c.index_mut-row.ensures.value c.push_copy.new.log.items c.in-Err.ensures.err refl (c.remove.ensures.items ∙ ap (drop 1) c.in_ok-insert.ensures.items))
 
 pub returns-in-Err-clause-want : goal.returns-in-Err-clause-want
 returns-in-Err-clause-want c =
-    let a : AnyCaller c.args.self.now c.args.caller (MayCommit c.args.self.now.frame EveryMap [] c.args.entry.now) = c.in_ok-may_commit.ensures.may.0 c.if-not-branch.false in
-    let old : Row = c.index_mut-row.result.now in
-    let mine : c.remove.new.self.items ≡ old.mine.items = c.remove.ensures.items ∙ ap (drop 1) c.in_ok-insert.ensures.items in
-    let new : Row = record old { mine = c.remove.new.self } in
-    let same = unchanged c.self.inside.frame c.self.inside.log.items c.self.inside.owners.items c.self.inside.spoilt.items c.self.inside.away.items c.self.inside.rows.items c.args.caller old new c.index_mut-row.ensures.value
-    c.args.self.now c.self.view_is c.self.invariant (a.0, a.1, tt) (λ t. record (caller_of c.self.inside.log.items old) { mine = numbered c.self.inside.log.items (mine t) }) in
-    let undone = ap (λ (es : List Entry). shown c.self.inside.frame c.self.inside.log.items c.self.inside.owners.items c.self.inside.spoilt.items c.self.inside.away.items c.self.inside.rows.items es (set c.self.inside.rows.items c.args.caller new)) c.in-Err.ensures.err ∙ same in
-    undone
+    undone c.self.inside.frame c.self.inside.log.items c.self.inside.owners.items c.self.inside.spoilt.items c.self.inside.away.items c.self.inside.rows.items c.self.invariant c.args.caller c.args.entry.now c.args.self.now c.self.view_is
+    (c.in_ok-may_commit.ensures.may.0 c.if-not-branch.false) c.index_mut-row.result.now (record c.index_mut-row.result.now { mine = c.remove.new.self }) c.index_mut-row.ensures.value c.push_copy.new.log.items c.in-Err.ensures.err refl (c.remove.ensures.items ∙ ap (drop 1) c.in_ok-insert.ensures.items)
 
 pub overflow_sub-row : goal.overflow_sub-row
 overflow_sub-row c =
-    let a : AnyCaller c.args.self.now c.args.caller (MayCommit c.args.self.now.frame EveryMap [] c.args.entry.now) = c.in_ok-may_commit.ensures.may.0 c.if-not-branch.false in
-    let old : Row = c.index_mut-row.result.now in
-    let low : c.args.caller < length c.self.inside.rows.items = in_map (caller_of c.self.inside.log.items) c.self.inside.rows.items c.args.caller _ (subst (λ (s : CoreState). AnyCaller s c.args.caller (MayCommit s.frame EveryMap [] c.args.entry.now)) (sym c.self.view_is) a).1 in
-    let m : 0 < old.allowance = (of_row c.self.inside.log.items c.self.inside.rows.items c.args.caller old low c.index_mut-row.ensures.value (MayCommit c.self.inside.frame EveryMap [] c.args.entry.now)
-    (subst (λ (s : CoreState). AnyCaller s c.args.caller (MayCommit s.frame EveryMap [] c.args.entry.now)) (sym c.self.view_is) a)).allowance in
+    let r : 0 < c.index_mut-row.result.now.allowance = room c.self.inside.frame c.self.inside.log.items c.self.inside.owners.items c.self.inside.spoilt.items c.self.inside.away.items c.self.inside.rows.items c.self.invariant c.args.caller c.args.entry.now c.args.self.now c.self.view_is
+    (c.in_ok-may_commit.ensures.may.0 c.if-not-branch.false) c.index_mut-row.result.now c.index_mut-row.result.now c.index_mut-row.ensures.value in
     omega arith
 
 pub invariant_of-self-2 : goal.invariant_of-self-2
 invariant_of-self-2 c =
-    let a : AnyCaller c.args.self.now c.args.caller (MayCommit c.args.self.now.frame EveryMap [] c.args.entry.now) = c.in_ok-may_commit.ensures.may.0 c.if-not-branch.false in
-    let old : Row = c.index_mut-row.result.now in
-    let low : c.args.caller < length c.self.inside.rows.items = in_map (caller_of c.self.inside.log.items) c.self.inside.rows.items c.args.caller _ (subst (λ (s : CoreState). AnyCaller s c.args.caller (MayCommit s.frame EveryMap [] c.args.entry.now)) (sym c.self.view_is) a).1 in
-    let new : Row = record old { allowance = old.allowance - 1; seen = c.len-number.result + 1; base = c.len-number.result + 1; mine = c.insert.new.self } in
-    let n : c.len-number.result ≡ length c.self.inside.log.items = c.len-number.ensures ∙ c.self.inside.log.ok.0 in
-    let fit : Fits c.self.inside.log.items old = row_fits c.self.inside.frame c.self.inside.log.items c.self.inside.owners.items c.self.inside.spoilt.items c.self.inside.away.items c.self.inside.rows.items c.self.invariant c.args.caller old low c.index_mut-row.ensures.value in
-    let fresh : caller_of (c.self.inside.log.items ++ c.args.entry.now ∷ []) new ≡ committed c.self.inside.log.items c.args.entry.now (caller_of c.self.inside.log.items old) =
-    fresh_row c.self.inside.log.items old new c.args.entry.now c.len-number.result fit n refl c.in_ok-insert.ensures.items in
-    (commit_done c.self.inside.frame c.self.inside.log.items c.self.inside.owners.items c.self.inside.spoilt.items c.self.inside.away.items c.self.inside.rows.items c.self.invariant c.args.caller old new c.index_mut-row.ensures.value c.args.entry.now c.args.self.now c.self.view_is a c.push_copy.new.log.items c.in_default.ensures.ok fresh).core
+    (did c.self.inside.frame c.self.inside.log.items c.self.inside.owners.items c.self.inside.spoilt.items c.self.inside.away.items c.self.inside.rows.items c.self.invariant c.args.caller c.args.entry.now c.args.self.now c.self.view_is
+    (c.in_ok-may_commit.ensures.may.0 c.if-not-branch.false) c.index_mut-row.result.now (record c.index_mut-row.result.now { allowance = c.index_mut-row.result.now.allowance - 1; seen = c.len-number.result + 1; base = c.len-number.result + 1; mine = c.insert.new.self }) c.index_mut-row.ensures.value c.push_copy.new.log.items c.len-number.result c.in_default.ensures.ok (c.len-number.ensures ∙ c.self.inside.log.ok.0) refl c.in_ok-insert.ensures.items).core
 
 pub returns-clause-answer : goal.returns-clause-answer
 returns-clause-answer c =
-    let a : AnyCaller c.args.self.now c.args.caller (MayCommit c.args.self.now.frame EveryMap [] c.args.entry.now) = c.in_ok-may_commit.ensures.may.0 c.if-not-branch.false in
-    let old : Row = c.index_mut-row.result.now in
-    let low : c.args.caller < length c.self.inside.rows.items = in_map (caller_of c.self.inside.log.items) c.self.inside.rows.items c.args.caller _ (subst (λ (s : CoreState). AnyCaller s c.args.caller (MayCommit s.frame EveryMap [] c.args.entry.now)) (sym c.self.view_is) a).1 in
-    let new : Row = record old { allowance = old.allowance - 1; seen = c.len-number.result + 1; base = c.len-number.result + 1; mine = c.insert.new.self } in
-    let n : c.len-number.result ≡ length c.self.inside.log.items = c.len-number.ensures ∙ c.self.inside.log.ok.0 in
-    let fit : Fits c.self.inside.log.items old = row_fits c.self.inside.frame c.self.inside.log.items c.self.inside.owners.items c.self.inside.spoilt.items c.self.inside.away.items c.self.inside.rows.items c.self.invariant c.args.caller old low c.index_mut-row.ensures.value in
-    let fresh : caller_of (c.self.inside.log.items ++ c.args.entry.now ∷ []) new ≡ committed c.self.inside.log.items c.args.entry.now (caller_of c.self.inside.log.items old) =
-    fresh_row c.self.inside.log.items old new c.args.entry.now c.len-number.result fit n refl c.in_ok-insert.ensures.items in
-    (commit_done c.self.inside.frame c.self.inside.log.items c.self.inside.owners.items c.self.inside.spoilt.items c.self.inside.away.items c.self.inside.rows.items c.self.invariant c.args.caller old new c.index_mut-row.ensures.value c.args.entry.now c.args.self.now c.self.view_is a c.push_copy.new.log.items c.in_default.ensures.ok fresh).answer
+    (did c.self.inside.frame c.self.inside.log.items c.self.inside.owners.items c.self.inside.spoilt.items c.self.inside.away.items c.self.inside.rows.items c.self.invariant c.args.caller c.args.entry.now c.args.self.now c.self.view_is
+    (c.in_ok-may_commit.ensures.may.0 c.if-not-branch.false) c.index_mut-row.result.now (record c.index_mut-row.result.now { allowance = c.index_mut-row.result.now.allowance - 1; seen = c.len-number.result + 1; base = c.len-number.result + 1; mine = c.insert.new.self }) c.index_mut-row.ensures.value c.push_copy.new.log.items c.len-number.result c.in_default.ensures.ok (c.len-number.ensures ∙ c.self.inside.log.ok.0) refl c.in_ok-insert.ensures.items).answer
 
 pub returns-clause-records : goal.returns-clause-records
 returns-clause-records c = λ _.
