@@ -1,5 +1,5 @@
 -- Histories that are kept as lengths, and calls that are kept as numbers, stay as the history grows.
-use Rattle.std.proofs.Common.{◌≡◌, ℕ, zero, suc, ◌<◌, ◌≤◌, List, [], ◌∷◌, ◌++◌, length, length-append, map, get_or, refl, sym, ap, arith}
+use Rattle.std.proofs.Common.{◌≡◌, ℕ, zero, suc, ◌<◌, ◌≤◌, List, [], ◌∷◌, ◌++◌, length, length-append, map, get_or, refl, sym, ap, arith, cond, ltb}
 use mathlib.Core.List.{IsPrefix}
 use mathlib.Core.Option.{some}
 use lib.ListN.{get_elem?}
@@ -7,6 +7,7 @@ use Rattle.tk_model.specs.declared.record.Entry.{Entry}
 use Rattle.tk_model.specs.declared.record.Entry.TheVariants as entries
 use Rattle.tk_core.specs.declared.machine.Row.{Row}
 use Rattle.tk_core.specs.Lists.{InPlace}
+use Rattle.tk_core.specs.Moves.{longer}
 use Rattle.tk_core.specs.Program.{firsts, numbered, caller_of}
 use Rattle.tk_core.proofs.Facts.{inside}
 
@@ -25,6 +26,9 @@ firsts_longer : (n : ℕ) (log es : List Entry) → n ≤ length log → firsts 
 firsts_longer zero log es h = refl
 firsts_longer (suc n) [] es h = absurd (omega arith)
 firsts_longer (suc n) (x ∷ xs) es h = ap (λ ys. x ∷ ys) (firsts_longer n xs es (omega arith))
+
+pub longer_firsts : (a b : ℕ) (log : List Entry) → longer (firsts a log) (firsts b log) ≡ cond (ltb a b) (firsts b log) (firsts a log)
+longer_firsts a b log = λ t. cond (ltb (firsts_length a log t) (firsts_length b log t)) (firsts b log) (firsts a log)
 
 -- a length whose calls are a prefix is at most the whole
 pub within : (n : ℕ) (log : List Entry) → IsPrefix (firsts n log) log → n ≤ length log
