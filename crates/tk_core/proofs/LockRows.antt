@@ -1,5 +1,5 @@
 -- What the rows of the program show where locks and stores pass, and callers are joined.
-use Rattle.std.proofs.Common.{◌≡◌, ℕ, zero, suc, ◌+◌, ◌-◌, ◌≢◌, ◌^◌, ◌<◌, ◌≤◌, ◌==◌, Bool, true, false, List, [], ◌∷◌, ◌++◌, Option, None, map, length, set, get_or, refl, sym, ap, ◌∙◌, subst, arith, cond, filter, not, max, eq-eqb, ne_eqb, length-set}
+use Rattle.std.proofs.Common.{◌≡◌, ℕ, zero, suc, ◌+◌, ◌-◌, ◌≢◌, ◌^◌, ◌<◌, ◌==◌, Bool, true, false, List, [], ◌∷◌, ◌++◌, Option, None, map, length, set, get_or, refl, sym, ap, ◌∙◌, subst, arith, cond, filter, not, max, eq-eqb, ne_eqb, length-set}
 use mathlib.Core.Logic.{dite}
 use native.Mathlib.Decide.{dec_le}
 use Rattle.std.specs.Bool.{then_some}

@@ -1,4 +1,4 @@
-use Rattle.std.proofs.Common.{rules, ◌≡◌}
+use Rattle.std.proofs.Common.{rules, ◌≡◌, refl}
 use Rattle.std.proofs.lemmas.List.Elements.{same_from_all_zip}
 use Rattle.tk_model.specs.declared.record.Entry.{Entry}
 use Rattle.tk_model.specs.declared.record.Entry.TheVariants as entries
@@ -34,7 +34,7 @@ same entries.Clear (entries.Proc ts2) h = absurd h
 same entries.Clear (entries.Next w2 b2 f2 a2) h = absurd h
 same entries.Clear (entries.Each ts2) h = absurd h
 same entries.Clear (entries.Count n2) h = absurd h
-same entries.Clear entries.Clear h = search (rules, same_from_all_zip)
+same entries.Clear entries.Clear h = refl
 same entries.Clear (entries.Sync hard2) h = absurd h
 same (entries.Sync hard) (entries.Proc ts2) h = absurd h
 same (entries.Sync hard) (entries.Next w2 b2 f2 a2) h = absurd h
