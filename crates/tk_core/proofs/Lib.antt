@@ -10,3 +10,7 @@ pub mod Knows
 pub mod Programs
 pub mod Rows
 pub mod LockRows
+pub mod RunRows
+pub mod Needs
+pub mod CommitRows
+pub mod Histories

@@ -1,14 +1,12 @@
 -- What the rows of the program show where locks and stores pass, and callers are joined.
-use Rattle.std.proofs.Common.{◌≡◌, ℕ, zero, suc, ◌+◌, ◌-◌, ◌≢◌, ◌^◌, ◌<◌, ◌≤◌, ◌==◌, Bool, true, false, List, [], ◌∷◌, ◌++◌, Option, None, map, length, set, get_or, take, refl, sym, ap, ◌∙◌, subst, arith, cond, filter, not, ltb, min, max, eq-eqb, ne_eqb, length-set}
+use Rattle.std.proofs.Common.{◌≡◌, ℕ, zero, suc, ◌+◌, ◌-◌, ◌≢◌, ◌^◌, ◌<◌, ◌==◌, Bool, true, false, List, [], ◌∷◌, ◌++◌, Option, None, map, length, set, get_or, refl, sym, ap, ◌∙◌, subst, arith, cond, filter, not, max, eq-eqb, ne_eqb, length-set}
 use mathlib.Core.Logic.{dite}
 use native.Mathlib.Decide.{dec_le}
 use Rattle.std.specs.Bool.{then_some}
 use Rattle.std.specs.Option.{option_to_list}
 use Rattle.tk_model.specs.declared.record.Entry.{Entry}
 use Rattle.std.proofs.Math.Nat.{max-eq_left, max-eq_right}
-use Rattle.std.proofs.lemmas.Bool.{ltb-false}
-use Rattle.std.proofs.lemmas.Bool.Decides.{nat_tests}
-use Rattle.std.proofs.lemmas.List.{length-take, take_all}
+use Rattle.std.proofs.lemmas.Bool.{le-ltb, lt-ltb}
 use mathlib.Core.Option.{some}
 use lib.ListN.{get_elem?}
 use Rattle.tk_model.specs.declared.record.Entry.TheVariants as entries
@@ -16,13 +14,14 @@ use Rattle.tk_model.specs.declared.record.Group.{Group}
 use Rattle.tk_core.specs.declared.machine.Row.{Row}
 use Rattle.tk_core.specs.declared.moves.Move.TheVariants as moves
 use Rattle.tk_core.specs.declared.frame.Frame.{Frame}
-use Rattle.tk_core.specs.Moves.{took_stripe, took_store, gave_stripe, gave_store, put_back, joined, spent}
+use Rattle.tk_core.specs.Moves.{took_stripe, took_store, gave_stripe, gave_store, put_back, longer, joined, spent}
 use Rattle.tk_core.specs.Needs.{MayTake, MayGive, MayPutBack, IsIdle}
 use Rattle.tk_core.specs.Caller.{Caller, weight}
 use Rattle.tk_core.specs.Covers.{store_lock}
-use Rattle.tk_core.specs.Program.{CoreState, AnyCaller, owner_of, IsCore, caller_of, numbered}
+use Rattle.tk_core.specs.Program.{CoreState, AnyCaller, owner_of, IsCore, caller_of, firsts, numbered}
 use Rattle.tk_core.specs.Lists.{has, put, without}
-use Rattle.tk_core.proofs.Facts.{by_test, by_bool, total_two}
+use Rattle.tk_core.proofs.Facts.{by_test, total_two}
+use Rattle.tk_core.proofs.Histories.{longer_firsts}
 use Rattle.tk_core.proofs.Rows.{IsDone, core, at_row, need, from_view, one_done, done, one_map, put_set, AnyRow, in_map, there, of_row, set_miss, set_again}
 
 pub length_numbered : (log : List Entry) (ns : List ℕ) → length (numbered log ns) ≡ length ns
@@ -70,9 +69,9 @@ module _ (f : Frame) (log : List Entry) (owners : List ℕ) (spoilt away : List 
   callers : (w : Caller) → caller_of log new ≡ w → map (caller_of log) (set rows i new) ≡ set (map (caller_of log) rows) i w
   callers w e = one_map (caller_of log) rows i new w e
 
-  module _ (l n base : ℕ) (found : Option ℕ) (next : n ≡ suc i) (whole : take base log ≡ log) where
+  module _ (l n base : ℕ) (found : Option ℕ) (next : n ≡ suc i) (whole : firsts base log ≡ log) where
     pub take_done : AnyCaller old i (MayTake old.frame (owner_of old) l) → (l < f.stripes → found ≡ None) → ((q : ℕ) → l ≡ store_lock f q → found ≡ then_some (get_or spoilt q false) q)
-        → caller_of log new ≡ record (caller_of log row) { held = l ∷ row.held.items; want = None; base = take base log; met = option_to_list found ++ row.met.items } → IsDone (moves.Take i l) old (now (set owners l n) spoilt away (set rows i new))
+        → caller_of log new ≡ record (caller_of log row) { held = l ∷ row.held.items; want = None; base = firsts base log; met = option_to_list found ++ row.met.items } → IsDone (moves.Take i l) old (now (set owners l n) spoilt away (set rows i new))
     take_done b stripe store e =
         let P : Caller → Type 0 = MayTake f (λ q. get_or owners q 0) l in
         let a : AnyRow log rows i P = from_view f log owners spoilt away rows i row new is old view ok (λ s. AnyCaller s i (MayTake s.frame (owner_of s) l)) b in
@@ -130,23 +129,11 @@ pub numbered_append : (log : List Entry) (xs ys : List ℕ) → numbered log (xs
 numbered_append log [] ys = refl
 numbered_append log (x ∷ xs) ys = ap (λ ps. (x, get_or log x entries.Clear) ∷ ps) (numbered_append log xs ys)
 
--- the longer of two prefixes has the greater number
-pub longer_take : {A : Type 0} (a b : ℕ) (xs : List A) (n m : ℕ) → n ≡ length (take a xs) → m ≡ length (take b xs) → take (max a b) xs ≡ cond (ltb n m) (take b xs) (take a xs)
-longer_take a b xs n m en em = dite (dec_le b a)
-    (λ less. ap (λ k. take k xs) (max-eq_left less) ∙ sym (ap (λ t. cond t (take b xs) (take a xs)) (shorter less)))
-    (λ not_less. ap (λ k. take k xs) (max-eq_right {n = a} {m = b} (omega arith)) ∙ by_bool (ltb n m) (λ e. sym (ap (λ t. cond t (take b xs) (take a xs)) e)) (λ e. all (omega arith) (ltb-false n m e) ∙ sym (ap (λ t. cond t (take b xs) (take a xs)) e)))
-  where
-    la : n ≡ min a (length xs)
-    la = en ∙ length-take a xs
-
-    lb : m ≡ min b (length xs)
-    lb = em ∙ length-take b xs
-
-    shorter : b ≤ a → ltb n m ≡ false
-    shorter less = let x = la in let y = lb in grind (arith, nat_tests)
-
-    all : a ≤ b → m ≤ n → take b xs ≡ take a xs
-    all up down = dite (dec_le (length xs) a) (λ h. take_all b xs (omega arith) ∙ sym (take_all a xs h)) (λ h. let x = la in let y = lb in ap (λ k. take k xs) (grind (arith, nat_tests)))
+-- the longer of two histories has the greater length
+pub longer_max : (a b : ℕ) (log : List Entry) → firsts (max a b) log ≡ longer (firsts a log) (firsts b log)
+longer_max a b log = dite (dec_le b a)
+    (λ less. ap (λ n. firsts n log) (max-eq_left less) ∙ sym (longer_firsts a b log ∙ ap (λ t. cond t (firsts b log) (firsts a log)) (le-ltb a b less)))
+    (λ not_less. ap (λ n. firsts n log) (max-eq_right {n = a} {m = b} (omega arith)) ∙ sym (longer_firsts a b log ∙ ap (λ t. cond t (firsts b log) (firsts a log)) (lt-ltb a b (omega arith))))
 
 set_twice : {A : Type 0} (xs : List A) (j : ℕ) (b l : A) → set (set xs j b) j l ≡ set xs j l
 set_twice [] j b l = refl

@@ -9,3 +9,4 @@ pub mod States
 pub mod Steps
 pub mod Laws
 pub mod Program
+pub mod Commits

@@ -1,5 +1,5 @@
 -- The core as the program keeps it: plain data, in which a caller's histories are lengths.
-use Rattle.std.specs.Prelude.{◌≡◌, ℕ, ◌+◌, Bool, true, false, List, [], ◌∷◌, length, take, replicate, get_or}
+use Rattle.std.specs.Prelude.{◌≡◌, ℕ, zero, suc, ◌+◌, Bool, true, false, List, [], ◌∷◌, length, replicate, get_or}
 use Rattle.tk_model.specs.declared.record.Entry.{Entry}
 use Rattle.tk_model.specs.declared.record.Entry.TheVariants as entries
 use Rattle.tk_core.specs.declared.frame.Frame.{Frame}
@@ -31,13 +31,20 @@ state_of c = record {
   callers = c.callers;
 }
 
+-- the first so many calls of the history; where it has fewer, a clear stands for each that it lacks
+abbrev pub firsts : ℕ → List Entry → List Entry
+firsts zero log = []
+firsts (suc n) [] = entries.Clear ∷ firsts n []
+firsts (suc n) (e ∷ es) = e ∷ firsts n es
+
+-- the calls of these numbers, with them
 abbrev pub numbered : List Entry → List ℕ → List (ℕ × Entry)
 numbered log [] = []
 numbered log (n ∷ ns) = (n, get_or log n entries.Clear) ∷ numbered log ns
 
 abbrev pub caller_of : List Entry → Row → Caller
 caller_of log r =
-    record { live = r.live; allowance = r.allowance; held = r.held.items; want = r.want; out = r.out.items; seen = take r.seen log; base = take r.base log; mine = numbered log r.mine.items; breaking = r.breaking.items; broke = r.broke.items; met = r.met.items }
+    record { live = r.live; allowance = r.allowance; held = r.held.items; want = r.want; out = r.out.items; seen = firsts r.seen log; base = firsts r.base log; mine = numbered log r.mine.items; breaking = r.breaking.items; broke = r.broke.items; met = r.met.items }
 
 -- a move is done where the answer says so; where not, no state follows, and nothing changed
 pub record IsAnswer (x : Move) (c d : CoreState) (is_done : Bool) : Type 0 where

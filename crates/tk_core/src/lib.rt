@@ -1,12 +1,16 @@
 //! The pure core of one history under rising locks.
 #![tactic(auto)]
 
+mod commit;
+mod covers;
 mod frame;
 mod law;
 mod locking;
 mod machine;
 mod moves;
+mod run;
 mod steps;
+mod values;
 
 pub use frame::Frame;
 pub use law::{
@@ -16,5 +20,7 @@ pub use law::{
 pub use machine::Core;
 pub use moves::{Move, MoveList};
 
+#[cfg(test)]
+mod run_tests;
 #[cfg(test)]
 mod tests;

@@ -1,5 +1,5 @@
 //! The steps that take and give locks, put stores back and join callers.
-ghost use Rattle.std.specs.Prelude.{true, [], ◌+◌, ◌^◌, ◌≡◌, ◌≢◌, ◌<◌, ◌++◌, ◌∷◌, ℕ, List, None, Some, cond, take, get_or, false, option_to_list, Decides, IfOk, IfErr};
+ghost use Rattle.std.specs.Prelude.{true, [], ◌+◌, ◌^◌, ◌≡◌, ◌≢◌, ◌<◌, ◌++◌, ◌∷◌, ℕ, List, None, Some, cond, get_or, false, option_to_list, Decides, IfOk, IfErr};
 ghost use Rattle.tk_core.specs.Caller.{weight, knows_broken};
 ghost use Rattle.std.specs.Bool.{then_some};
 ghost use Rattle.tk_model.specs.declared.record.Entry.{Entry};
@@ -8,7 +8,7 @@ ghost use Rattle.tk_core.specs.Lists.{has, without};
 ghost use Rattle.tk_core.specs.Moves.{gave_stripe, gave_store, put_back, joined, spent};
 ghost use Rattle.tk_core.specs.Needs.{MayTake, MayGive, MayPutBack, IsIdle};
 ghost use Rattle.tk_core.specs.declared.frame.Frame.{Frame};
-ghost use Rattle.tk_core.specs.Program.{IsAnswer, AnyCaller, caller_of, owner_of};
+ghost use Rattle.tk_core.specs.Program.{IsAnswer, AnyCaller, caller_of, firsts, owner_of};
 ghost use Rattle.tk_core.specs.declared.moves.Move.TheVariants as moves;
 
 use crate::machine::Row;
@@ -172,7 +172,7 @@ impl Row {
 
     /// The row has the lock, wants none, and has met the store that was found broken.
     fn hold(&mut self, lock: u32, base: usize, found: Option<u32>) -> Result<(), NoMemory>
-        ensures held { IfOk result (λ _. (log : List Entry) → caller_of log self.new ≡ record (caller_of log self.old) { held = lock ∷ self.old.held.items; want = None; base = take base log; met = option_to_list found ++ self.old.met.items }) }
+        ensures held { IfOk result (λ _. (log : List Entry) → caller_of log self.new ≡ record (caller_of log self.old) { held = lock ∷ self.old.held.items; want = None; base = firsts base log; met = option_to_list found ++ self.old.met.items }) }
         ensures want { IfErr result (λ e. (log : List Entry) → caller_of log self.new ≡ caller_of log self.old) }
     {
         self.held.reserve(1)?;

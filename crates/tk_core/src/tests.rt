@@ -65,12 +65,6 @@ fn only_a_store_that_is_out_is_put_back(rt: HostRuntime) {
 }
 
 #[test]
-fn nobody_joins_itself(rt: HostRuntime) {
-    let mut core = Core::new(rt.alloc(), 1, 16, Order::Hash).expect(&rt, "a new core");
-    assert!(rt; core.join(0, 0).is_ok_and(|done| !done));
-}
-
-#[test]
 fn a_caller_that_was_joined_is_gone(rt: HostRuntime) {
     let mut core = Core::new(rt.alloc(), 1, 16, Order::Hash).expect(&rt, "a new core");
     assert!(rt; core.split(rt.alloc(), 0).is_ok_and(|done| done));

@@ -1,10 +1,10 @@
-use Rattle.std.proofs.Common.{rules, ◌≡◌, length, take, sym, subst, ◌∙◌, arith}
-use Rattle.std.proofs.lemmas.List.{take_all}
+use Rattle.std.proofs.Common.{rules, ◌≡◌, length, sym, subst, ◌∙◌}
 use Rattle.tk_core.specs.declared.machine.Row.{Row}
 use Rattle.tk_core.specs.Needs.{MayLook}
 use Rattle.tk_core.specs.declared.moves.Move.TheVariants as moves
-use Rattle.tk_core.specs.Program.{CoreState, AnyCaller, caller_of}
+use Rattle.tk_core.specs.Program.{CoreState, AnyCaller, firsts, caller_of}
 use Rattle.tk_core.proofs.Rows.{refuses, in_map, look_done}
+use Rattle.tk_core.proofs.Histories.{firsts_all}
 use Rattle.tk_core.proofs.machine.Core.look.Goals as goal
 
 pub returns-then-not-may_look : goal.returns-then-not-may_look
@@ -20,7 +20,7 @@ index_mut-row-requires c =
 pub invariant_of-self : goal.invariant_of-self
 invariant_of-self c =
     let n : c.len-seen.result ≡ length c.self.inside.log.items = c.len-seen.ensures ∙ c.self.inside.log.ok.0 in
-    let whole : take c.len-seen.result c.self.inside.log.items ≡ c.self.inside.log.items = take_all c.len-seen.result c.self.inside.log.items (omega arith) in
+    let whole : firsts c.len-seen.result c.self.inside.log.items ≡ c.self.inside.log.items = firsts_all c.len-seen.result c.self.inside.log.items n in
     let old : Row = c.index_mut-row.result.now in
     let new : Row = record old { seen = c.len-seen.result; base = c.len-seen.result } in
     (look_done c.self.inside.frame c.self.inside.log.items c.self.inside.owners.items c.self.inside.spoilt.items c.self.inside.away.items c.self.inside.rows.items c.args.caller old new c.index_mut-row.ensures.value
@@ -29,7 +29,7 @@ invariant_of-self c =
 pub returns : goal.returns
 returns c =
     let n : c.len-seen.result ≡ length c.self.inside.log.items = c.len-seen.ensures ∙ c.self.inside.log.ok.0 in
-    let whole : take c.len-seen.result c.self.inside.log.items ≡ c.self.inside.log.items = take_all c.len-seen.result c.self.inside.log.items (omega arith) in
+    let whole : firsts c.len-seen.result c.self.inside.log.items ≡ c.self.inside.log.items = firsts_all c.len-seen.result c.self.inside.log.items n in
     let old : Row = c.index_mut-row.result.now in
     let new : Row = record old { seen = c.len-seen.result; base = c.len-seen.result } in
     (look_done c.self.inside.frame c.self.inside.log.items c.self.inside.owners.items c.self.inside.spoilt.items c.self.inside.away.items c.self.inside.rows.items c.args.caller old new c.index_mut-row.ensures.value

@@ -1,8 +1,8 @@
-use Rattle.std.proofs.Common.{rules, ◌≡◌, ◌+◌, length, take, sym, subst, ◌∙◌, arith}
-use Rattle.std.proofs.lemmas.List.{take_all}
+use Rattle.std.proofs.Common.{rules, ◌≡◌, ◌+◌, length, sym, subst, ◌∙◌, arith}
 use Rattle.tk_core.specs.Needs.{MayTake}
-use Rattle.tk_core.specs.Program.{CoreState, AnyCaller, IsCore, caller_of, owner_of}
+use Rattle.tk_core.specs.Program.{CoreState, AnyCaller, IsCore, caller_of, firsts, owner_of}
 use Rattle.tk_core.proofs.Rows.{in_map, unchanged}
+use Rattle.tk_core.proofs.Histories.{firsts_all}
 use Rattle.tk_core.proofs.LockRows.{take_done}
 use Rattle.tk_core.proofs.machine.Core.take.Goals as goal
 
@@ -30,13 +30,13 @@ returns-in_err-hold-clause-want c =
 pub invariant_of-self-2 : goal.invariant_of-self-2
 invariant_of-self-2 c =
     let n : c.len-base.result ≡ length c.self.inside.log.items = c.len-base.ensures ∙ c.self.inside.log.ok.0 in
-    let whole : take c.len-base.result c.self.inside.log.items ≡ c.self.inside.log.items = take_all c.len-base.result c.self.inside.log.items (omega arith) in
+    let whole : firsts c.len-base.result c.self.inside.log.items ≡ c.self.inside.log.items = firsts_all c.len-base.result c.self.inside.log.items n in
     (take_done c.self.inside.frame c.self.inside.log.items c.self.inside.owners.items c.self.inside.spoilt.items c.self.inside.away.items c.self.inside.rows.items c.args.caller c.index_mut.result.now c.hold.new.self c.index_mut.ensures.value
     c.args.self.now c.self.view_is c.self.invariant c.args.lock (c.args.caller + 1) c.len-base.result c.broken_store-found.result (omega arith) whole (c.may_take.ensures.0 (search rules)) (search rules) (search rules) (c.in_ok-hold.ensures.held c.self.inside.log.items)).core
 
 pub returns-clause-answer : goal.returns-clause-answer
 returns-clause-answer c =
     let n : c.len-base.result ≡ length c.self.inside.log.items = c.len-base.ensures ∙ c.self.inside.log.ok.0 in
-    let whole : take c.len-base.result c.self.inside.log.items ≡ c.self.inside.log.items = take_all c.len-base.result c.self.inside.log.items (omega arith) in
+    let whole : firsts c.len-base.result c.self.inside.log.items ≡ c.self.inside.log.items = firsts_all c.len-base.result c.self.inside.log.items n in
     (take_done c.self.inside.frame c.self.inside.log.items c.self.inside.owners.items c.self.inside.spoilt.items c.self.inside.away.items c.self.inside.rows.items c.args.caller c.index_mut.result.now c.hold.new.self c.index_mut.ensures.value
     c.args.self.now c.self.view_is c.self.invariant c.args.lock (c.args.caller + 1) c.len-base.result c.broken_store-found.result (omega arith) whole (c.may_take.ensures.0 (search rules)) (search rules) (search rules) (c.in_ok-hold.ensures.held c.self.inside.log.items)).answer
