@@ -6,6 +6,7 @@ use super::*;
 use std::alloc::{AllocError, Global};
 use std::test::Fail;
 use tk_disk::{MemDisk, MemFolder};
+use tk_io::{MemSink, MemSource};
 use tk_model::{Bytes, FaultList, NoMemory, fnv64};
 use tk_status::Finish;
 
@@ -49,12 +50,22 @@ fn sum_of(folder: &MemFolder) -> Sum
     }
 }
 
+/// Runs a command without input, and tells its end.
+fn run_to(alloc: Global, words: &[String], folder: &mut MemFolder, out: &mut MemSink) -> Finish
+    requires { NoneOut (folder_is_out folder.old) }
+    ensures { NoneOut (folder_is_out folder.new) }
+{
+    let mut source = MemSource::new(Bytes::new(alloc), FaultList::new(alloc));
+    run_util(alloc, words, folder, &mut source, out)
+}
+
 /// Runs a command, and tells its end and what the file holds then.
 fn run_in(alloc: Global, words: &[String], folder: &mut MemFolder) -> (Finish, Sum)
     requires { NoneOut (folder_is_out folder.old) }
     ensures { NoneOut (folder_is_out folder.new) }
 {
-    let finish = run_util(alloc, words, folder);
+    let mut out = MemSink::new(alloc, FaultList::new(alloc));
+    let finish = run_to(alloc, words, folder, &mut out);
     (finish, sum_of(folder))
 }
 
@@ -125,14 +136,15 @@ fn words_out_of_the_grammar(rt: HostRuntime) -> Result<(), Fail> {
     assert!(rt; is_usage(alloc, &["get", "x.tkh", "a", "1"])?);
     assert!(rt; is_usage(alloc, &["set", "x.tkt", "a", "1"])?);
     assert!(rt; is_usage(alloc, &["set", "tkh", "a", "1"])?);
-    assert!(rt; is_usage(alloc, &["set", "x.tkh", "--", "1"])?);
+    assert!(rt; is_usage(alloc, &["set", "x.tkh", "-a", "1"])?);
+    assert!(rt; is_usage(alloc, &["list", "x.tkh"])?);
     assert!(rt; is_usage(alloc, &["set", "x.tkh", key.as_str(), "1"])?);
     assert!(rt; is_usage(alloc, &["set", "x.tkh", "a", value.as_str()])?);
     Ok(())
 }
 
 #[test]
-fn a_file_that_has_bytes(rt: HostRuntime) -> Result<(), Fail> {
+fn a_file_of_other_bytes(rt: HostRuntime) -> Result<(), Fail> {
     let alloc = rt.alloc();
     let set = words(alloc, &["set", "x.tkh", "a", "1"])?;
     let mut folder = folder_of(alloc, b"?", &[])?;
@@ -140,12 +152,108 @@ fn a_file_that_has_bytes(rt: HostRuntime) -> Result<(), Fail> {
         run_in(alloc, &set, &mut folder),
         (Finish::refused(0, 0), Some((1, fnv64(b"?"))))
     );
+    Ok(())
+}
+
+#[test]
+fn a_second_record(rt: HostRuntime) -> Result<(), Fail> {
+    let alloc = rt.alloc();
+    let set = words(alloc, &["set", "x.tkh", "a", "1"])?;
+    let more = words(alloc, &["set", "x.tkh", "b", "22"])?;
     let mut folder = folder_of(alloc, b"", &[])?;
     assert_eq!(rt; run_in(alloc, &set, &mut folder).0, Finish::with(0));
-    assert_eq!(rt;
-        run_in(alloc, &set, &mut folder),
-        (Finish::refused(0, 0), Some((8304, 0x3e052bc8c54a6f47)))
-    );
+    let (finish, sum) = run_in(alloc, &more, &mut folder);
+    assert_eq!(rt; finish, Finish::with(0));
+    assert!(rt; sum.is_some_and(|(length, _)| length == 8352));
+    Ok(())
+}
+
+/// What `get` prints of the file, and how it ends.
+fn got(alloc: Global, folder: &mut MemFolder, key: &str) -> Result<(Finish, Bytes), NoMemory>
+    requires { NoneOut (folder_is_out folder.old) }
+    ensures { NoneOut (folder_is_out folder.new) }
+{
+    let get = words(alloc, &["get", "x.tkh", key])?;
+    let mut out = MemSink::new(alloc, FaultList::new(alloc));
+    let finish = run_to(alloc, &get, folder, &mut out);
+    Ok((finish, Bytes::from_slice(alloc, out.bytes())?))
+}
+
+#[test]
+fn a_value_is_printed(rt: HostRuntime) -> Result<(), Fail> {
+    let alloc = rt.alloc();
+    let set = words(alloc, &["set", "x.tkh", "a", "1"])?;
+    let mut folder = folder_of(alloc, b"", &[])?;
+    assert_eq!(rt; run_in(alloc, &set, &mut folder).0, Finish::with(0));
+    let (finish, printed) = got(alloc, &mut folder, "a")?;
+    assert_eq!(rt; finish, Finish::with(0));
+    assert_eq!(rt; printed.as_slice(), b"1\n".as_slice());
+    let (finish, printed) = got(alloc, &mut folder, "b")?;
+    assert_eq!(rt; finish, Finish::answered(7));
+    assert!(rt; printed.is_empty());
+    Ok(())
+}
+
+#[test]
+fn a_record_is_removed(rt: HostRuntime) -> Result<(), Fail> {
+    let alloc = rt.alloc();
+    let set = words(alloc, &["set", "x.tkh", "a", "1"])?;
+    let remove = words(alloc, &["remove", "x.tkh", "a"])?;
+    let mut folder = folder_of(alloc, b"", &[])?;
+    assert_eq!(rt; run_in(alloc, &set, &mut folder).0, Finish::with(0));
+    assert_eq!(rt; run_in(alloc, &remove, &mut folder).0, Finish::with(0));
+    assert_eq!(rt; got(alloc, &mut folder, "a")?.0, Finish::answered(7));
+    assert_eq!(rt; run_in(alloc, &remove, &mut folder).0, Finish::answered(7));
+    Ok(())
+}
+
+#[test]
+fn a_sink_that_fails(rt: HostRuntime) -> Result<(), Fail> {
+    let alloc = rt.alloc();
+    let set = words(alloc, &["set", "x.tkh", "a", "1"])?;
+    let get = words(alloc, &["get", "x.tkh", "a"])?;
+    let mut folder = folder_of(alloc, b"", &[])?;
+    assert_eq!(rt; run_in(alloc, &set, &mut folder).0, Finish::with(0));
+    let mut out = MemSink::new(alloc, list_of(alloc, &[1])?);
+    assert_eq!(rt; run_to(alloc, &get, &mut folder, &mut out), Finish::with(4));
+    assert_eq!(rt; out.bytes(), b"1".as_slice());
+    Ok(())
+}
+
+#[test]
+fn no_file_for_a_look_up(rt: HostRuntime) -> Result<(), Fail> {
+    let alloc = rt.alloc();
+    let none = list_of(alloc, &[])?;
+    let remove = words(alloc, &["remove", "y.tkh", "a"])?;
+    assert_eq!(rt; run_anew(alloc, &remove, 100_000, none), (Finish::refused(0, 0), None));
+    Ok(())
+}
+
+/// A folder with the file of one record, whose disk fails at these calls.
+fn folder_of_one(alloc: Global, faults: &[u64]) -> Result<MemFolder, NoMemory>
+    ensures { IfOk result (λ f. NoneOut (folder_is_out f)) }
+{
+    let set = words(alloc, &["set", "x.tkh", "a", "1"])?;
+    let mut first = MemFolder::new(alloc, 100_000, list_of(alloc, &[])?);
+    let _ = run_in(alloc, &set, &mut first);
+    let bytes = first.bytes("x.tkh").unwrap_or(&[]);
+    folder_of(alloc, bytes, faults)
+}
+
+#[test]
+fn each_failing_call_of_a_second_set(rt: HostRuntime) -> Result<(), Fail> {
+    let alloc = rt.alloc();
+    let set = words(alloc, &["set", "x.tkh", "b", "22"])?;
+    for call in 0..10 {
+        let mut folder = folder_of_one(alloc, &[call])?;
+        assert_eq!(rt;
+            run_in(alloc, &set, &mut folder).0,
+            Finish::with(4),
+            "disk's call {call}"
+        );
+    }
+    let mut folder = folder_of_one(alloc, &[10])?;
+    assert_eq!(rt; run_in(alloc, &set, &mut folder).0, Finish::with(0));
     Ok(())
 }
 

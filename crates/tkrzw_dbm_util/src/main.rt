@@ -9,8 +9,9 @@ ghost use Rattle.tk_disk.specs.DirFolder.{dir_is_out};
 use std::process::ExitCode;
 use std::{env, io};
 use tk_disk::DirFolder;
+use tk_io::{StdSink, StdSource};
 use tk_model::NoMemory;
-use tk_status::Finish;
+use tk_status::{Finish, Status, number, text};
 use tk_util::run_util;
 
 /// The words of the command line, without the program's name.
@@ -45,7 +46,21 @@ fn run(rt: &HostRuntime) -> Finish {
     let Ok(mut folder) = here(rt) else {
         return Finish::with(5);
     };
-    run_util(rt.alloc(), &words, &mut folder)
+    let mut source = StdSource::new(rt.reader());
+    let mut out = StdSink::new(io::writer(rt));
+    run_util(rt.alloc(), &words, &mut folder, &mut source, &mut out)
+}
+
+/// The name of an answer that a command can end with.
+fn answer_of(answer: u8) -> &'static str {
+    if answer == number(&Status::NotFound) {
+        return text(&Status::NotFound);
+    }
+    text(&Status::Full {
+        size: 0,
+        need: 0,
+        limit: 0,
+    })
 }
 
 /// Prints the line that an end above 0 has on standard error.
@@ -58,6 +73,7 @@ fn tell(rt: &HostRuntime, finish: &Finish) -> io::Result<()> {
             eprintln!(rt; "file {file} refused at place {place}")
         }
         5 => eprintln!(rt; "no memory"),
+        6 => eprintln!(rt; "answer {}", answer_of(finish.answer)),
         _ => eprintln!(rt; "fault"),
     }
 }
