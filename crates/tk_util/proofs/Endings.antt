@@ -13,8 +13,8 @@ use Rattle.tk_util.specs.declared.call.Stop.TheVariants as stops
 use Rattle.tk_model.specs.declared.error.OpenError.TheVariants.{NotADatabase}
 use Rattle.tk_append.specs.Opening.{first_fault}
 use Rattle.tk_util.specs.Calls.{RefusedAt, Holds}
-use Rattle.tk_util.specs.Ran.{Replied, Filled, Refused, RanCall, value_in}
-use Rattle.tk_util.specs.Done.{IsMade, IsFull, CallDone}
+use Rattle.tk_util.specs.Ran.{Replied, RanCall, value_in}
+use Rattle.tk_util.specs.Done.{IsMade, CallDone}
 use Rattle.tk_util.specs.Ends.{call_end}
 
 pub from_none : {T : Type 0} {P : Type 0} (o : Option T) → o ≡ None → IfNone o P → P

@@ -1,5 +1,5 @@
 -- How `get` ends, by its look-up and by printing.
-use Rattle.std.proofs.Common.{◌≡◌, ◌≢◌, ℕ, false, List, [], ◌∷◌, ◌++◌, length, take, refl, sym, ◌∙◌, ap, subst, inl, inr, arith}
+use Rattle.std.proofs.Common.{◌≡◌, ◌≢◌, ℕ, false, List, [], ◌∷◌, ◌++◌, length, refl, sym, ◌∙◌, subst, inl, inr, arith}
 use Rattle.std.specs.Prelude.{Option, Some, None, ◌⊎◌}
 use Rattle.std.specs.Io.KnownBytes.{Appends}
 use Rattle.std.proofs.lemmas.List.{take_all}
@@ -8,10 +8,9 @@ use Rattle.tk_disk.specs.Folder.{or_empty}
 use Rattle.tk_status.specs.declared.finish.Finish.{Finish}
 use Rattle.tk_status.specs.Finish.{ended}
 use Rattle.tk_proc.specs.Replies.{get_reply}
-use Rattle.tk_util.specs.Calls.{Holds}
 use Rattle.tk_util.specs.Words.{KeyWords}
 use Rattle.tk_util.specs.World.{World}
-use Rattle.tk_util.specs.Ran.{value_in, IsLine, RanCall, RanGet}
+use Rattle.tk_util.specs.Ran.{IsLine, RanGet}
 use Rattle.tk_util.specs.Done.{LookedUp}
 use Rattle.tk_util.proofs.Endings.{ran_stopped, not_status}
 

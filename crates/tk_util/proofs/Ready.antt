@@ -1,9 +1,9 @@
 -- The ready processors, as their replies.
-use Rattle.std.proofs.Common.{◌≡◌, ℕ, ◌≤◌, ◌<◌, Bool, true, false, List, length, refl, arith}
+use Rattle.std.proofs.Common.{◌≡◌, ℕ, ◌≤◌, true, false, List, length, refl, arith}
 use Rattle.std.specs.Prelude.{Option, Some, None, nat_lt}
 use Rattle.std.proofs.lemmas.Bool.Decides.{nat_tests}
 use Rattle.tk_status.specs.declared.Status.TheVariants.{Success}
-use Rattle.tk_proc.specs.Replies.{Reply, get_reply, set_reply, remove_reply}
+use Rattle.tk_proc.specs.Replies.{get_reply, set_reply, remove_reply}
 use Rattle.tk_proc.specs.Runs.{is_long}
 
 pub get_fits : (was : Option (List ℕ)) → is_long (get_reply was).action ≡ false

@@ -1,7 +1,7 @@
 -- The call of a ready processor is its reply.
-use Rattle.std.proofs.Common.{◌≡◌, ℕ, ◌≤◌, Bool, true, false, List, [], refl, sym, ◌∙◌, ap, subst, if◌then◌else◌}
+use Rattle.std.proofs.Common.{◌≡◌, ℕ, Bool, true, false, List, [], refl, sym, ◌∙◌, ap, subst, if◌then◌else◌}
 use Rattle.std.specs.Prelude.{Option, Some, None, IfSome, IfOk, Result, Ok, Err}
-use Rattle.tk_model.specs.Records.{find, replay}
+use Rattle.tk_model.specs.Records.{replay}
 use Rattle.tk_model.specs.declared.record.Order.TheVariants.{Hash}
 use Rattle.tk_model.specs.declared.record.Group.{Group}
 use Rattle.tk_model.specs.declared.record.Change.{Change}
@@ -15,7 +15,7 @@ use Rattle.tk_util.specs.declared.call.Stop.{Stop}
 use Rattle.tk_util.specs.declared.call.Stop.TheVariants.{Refused, Full, Fault, NoMemory}
 use Rattle.tk_util.specs.Calls.{Made, NoRoom, RefusedAt, passes, called_file}
 use Rattle.tk_util.specs.Ran.{value_in, reply_changes}
-use Rattle.tk_util.specs.Done.{IsMade, IsFull, CallDone, with_status}
+use Rattle.tk_util.specs.Done.{IsMade, CallDone, with_status}
 
 pick_short : (long : Bool) (a : Action) → long ≡ false → (if long then Keep else a) ≡ a
 pick_short true a e = absurd (cc)

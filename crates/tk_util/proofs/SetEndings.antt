@@ -1,19 +1,16 @@
 -- `set` on a file that has bytes.
-use Rattle.std.proofs.Common.{◌≡◌, ◌≢◌, ℕ, true, List, [], refl, sym, ◌∙◌, ap, subst}
+use Rattle.std.proofs.Common.{◌≡◌, ◌≢◌, ℕ, List, [], refl, sym, ◌∙◌, ap, subst}
 use Rattle.std.specs.Prelude.{Option, Some, None, IfSome, OnOk, Result, Ok, Err}
-use Rattle.tk_disk.specs.Folder.{or_empty}
 use Rattle.tk_disk.specs.declared.disk.DiskError.{DiskError}
 use Rattle.tk_status.specs.declared.Status.{Status}
 use Rattle.tk_status.specs.declared.Status.TheVariants.{Success}
 use Rattle.tk_status.specs.declared.finish.Finish.{Finish}
 use Rattle.tk_status.specs.Finish.{ended, refused_at, answered}
-use Rattle.tk_proc.specs.Replies.{Reply}
 use Rattle.tk_util.specs.declared.call.Stop.{Stop}
 use Rattle.tk_util.specs.declared.call.Stop.TheVariants as stops
-use Rattle.tk_util.specs.Ran.{RanCall}
-use Rattle.tk_util.specs.Done.{CallDone, FreshAnswer}
+use Rattle.tk_util.specs.Done.{FreshAnswer}
 use Rattle.tk_util.specs.Ends.{call_end}
-use Rattle.tk_util.proofs.Endings.{not_status, other_status, ran_call, has_bytes, told_call}
+use Rattle.tk_util.proofs.Endings.{not_status, other_status}
 
 -- what is said of a disk after a call that left it
 pub moved : (o m : Option (List ℕ)) (P : List ℕ → Type 0) → IfSome o (λ f. f ≢ [] → m ≡ o) → IfSome m P → IfSome o (λ f. f ≢ [] → P f)

@@ -225,7 +225,10 @@ fn no_file_for_a_look_up(rt: HostRuntime) -> Result<(), Fail> {
     let alloc = rt.alloc();
     let none = list_of(alloc, &[])?;
     let remove = words(alloc, &["remove", "y.tkh", "a"])?;
-    assert_eq!(rt; run_anew(alloc, &remove, 100_000, none), (Finish::refused(0, 0), None));
+    assert_eq!(rt;
+        run_anew(alloc, &remove, 100_000, none),
+        (Finish::refused(0, 0), None)
+    );
     Ok(())
 }
 

@@ -1,4 +1,4 @@
-use Rattle.std.proofs.Common.{◌≡◌, ℕ, List, refl, sym, ◌∙◌, ap}
+use Rattle.std.proofs.Common.{ℕ, List, refl, ◌∙◌, ap}
 use Rattle.std.specs.Prelude.{Option}
 use Rattle.tk_proc.specs.Replies.{get_reply}
 use Rattle.tk_util.proofs.Ready.{get_fits}

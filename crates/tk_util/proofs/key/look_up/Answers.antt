@@ -1,4 +1,4 @@
-use Rattle.std.proofs.Common.{◌≡◌, refl, sym, ◌∙◌, inl, inr}
+use Rattle.std.proofs.Common.{refl, ◌∙◌, inl, inr}
 use Rattle.tk_util.proofs.Endings.{ran_call, ran_absent, ran_stopped, empty_refused, there, from_none, from_some, on_some, two_names, found_call, kept_call, not_status}
 use Rattle.tk_util.proofs.key.look_up.Goals as goal
 

@@ -1,4 +1,4 @@
-use Rattle.std.proofs.Common.{◌≡◌, ℕ, List, refl, sym, ◌∙◌, ap}
+use Rattle.std.proofs.Common.{refl, sym}
 use Rattle.tk_proc.specs.Replies.{remove_reply}
 use Rattle.tk_util.proofs.Ready.{remove_fits}
 use Rattle.tk_util.proofs.Replies.{called_done}

@@ -1,4 +1,4 @@
-use Rattle.std.proofs.Common.{◌≡◌, refl, sym, ◌∙◌}
+use Rattle.std.proofs.Common.{refl, ◌∙◌}
 use Rattle.tk_util.proofs.Endings.{ran_call, ran_absent, empty_refused, there, from_none, from_some, on_some, two_names}
 use Rattle.tk_util.proofs.key.run_remove.Goals as goal
 
@@ -11,10 +11,10 @@ returns-in-Ok-None-clause-ran g c = λ left held tells. record {
 pub returns-clause-ran : goal.returns-clause-ran
 returns-clause-ran g c = λ left held tells. record {
   call = ran_call _ _ _ _ _ _ _ _ _ _
-  (there _ (on_some _ _ c.in-Ok-Some.field-0-is c.in-Ok-Some.ensures.there refl tells))
-  (from_some _ _ _ c.in-Ok-Some.field-0-is c.in-Ok-Some.ensures.image tells)
-  c.remove_from-disk.ensures.call
-  (c.give-given.ensures.here (c.take.ensures.tells ∙ tells))
-  c.end_of.ensures;
+      (there _ (on_some _ _ c.in-Ok-Some.field-0-is c.in-Ok-Some.ensures.there refl tells))
+      (from_some _ _ _ c.in-Ok-Some.field-0-is c.in-Ok-Some.ensures.image tells)
+      c.remove_from-disk.ensures.call
+      (c.give-given.ensures.here (c.take.ensures.tells ∙ tells))
+      c.end_of.ensures;
   only = record { others = two_names _ _ _ _ c.take.ensures.others c.give-given.ensures.others; left = refl; held = refl };
 }

@@ -1,5 +1,4 @@
-use Rattle.std.proofs.Common.{◌≡◌, ◌≢◌, ℕ, List, [], refl, sym, ◌∙◌, ap}
-use Rattle.std.specs.Prelude.{Option, Some, OnOk, Err}
+use Rattle.std.proofs.Common.{refl, ◌∙◌, ap}
 use Rattle.tk_disk.specs.Folder.{or_empty}
 use Rattle.tk_util.proofs.Endings.{ran, has_bytes, from_some, two_names, told_call}
 use Rattle.tk_util.proofs.SetEndings.{ok_fresh, fresh_end, memory_end}

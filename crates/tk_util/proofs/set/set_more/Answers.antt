@@ -1,4 +1,4 @@
-use Rattle.std.proofs.Common.{◌≡◌, ℕ, List, refl, sym, ◌∙◌, ap, true}
+use Rattle.std.proofs.Common.{ℕ, List, sym, ◌∙◌, ap, true}
 use Rattle.tk_proc.specs.Replies.{set_reply}
 use Rattle.tk_util.proofs.Ready.{set_fits, set_success}
 use Rattle.tk_util.proofs.Replies.{called_done}
