@@ -44,18 +44,18 @@ def block(kind, last, number, key, value, place, link):
     return text + bytes(extent - len(text))
 
 
-def hash_file(groups, count, next_number, p=10):
+def hash_file(groups, count, next_number, p=10, kind=1, order=0):
     """The file of a list of groups (number, [(kind, key, value)])."""
     base = 64 + 8 * 2**p
     heads = [0] * 2**p
     blocks = b""
     for number, changes in groups:
-        for i, (kind, key, value) in enumerate(changes):
+        for i, (what, key, value) in enumerate(changes):
             bucket = mix(key) >> (64 - p)
             place = base + len(blocks)
-            blocks += block(kind, int(i + 1 == len(changes)), number, key, value, place, heads[bucket])
+            blocks += block(what, int(i + 1 == len(changes)), number, key, value, place, heads[bucket])
             heads[bucket] = place
-    static = b"TKPHASH\n" + bytes([1, 1, p, 0]) + bytes(8) + base.to_bytes(8, "big")
+    static = b"TKPHASH\n" + bytes([kind, 1, p, order]) + bytes(8) + base.to_bytes(8, "big")
     closing = (base + len(blocks)).to_bytes(8, "big") + count.to_bytes(8, "big")
     closing += next_number.to_bytes(8, "big") + bytes(4)
     text = static + fnv(static, 32).to_bytes(4, "big") + closing + fnv(closing, 32).to_bytes(4, "big")
@@ -74,7 +74,32 @@ class Step:
         self.files, self.sums = files or {}, sums or {}
 
 
+def flipped(text, at):
+    """The text with the lowest bit of one byte flipped."""
+    return text[:at] + bytes([text[at] ^ 1]) + text[at + 1:]
+
+
+def left_open():
+    """The closing part of a file that is open."""
+    return bytes(28) + fnv(bytes(28), 32).to_bytes(4, "big")
+
+
+def refused(text, place):
+    """The three commands refuse a file at a place, and leave it."""
+    err = b"file 0 refused at place %d\n" % place
+    return {"x.tkh": text}, [Step([*words], 3, err=err, files={"x.tkh": text}) for words in (
+        ("get", "x.tkh", "a"), ("set", "x.tkh", "c", "3"), ("remove", "x.tkh", "a"))]
+
+
 FIRST = one_set(b"a", b"1")
+SECOND = hash_file([(0, [(1, b"a", b"1")]), (1, [(1, b"b", b"22")])], 2, 2)
+AGAIN = hash_file([(0, [(1, b"a", b"1")]), (1, [(1, b"a", b"2")])], 1, 2)
+REMOVED = hash_file([(0, [(1, b"a", b"1")]), (1, [(2, b"a", b"")])], 0, 2)
+REMOVED_TWICE = hash_file([(0, [(1, b"a", b"1")]), (1, [(2, b"a", b"")])], 0, 3)
+LETTERS = one_set("\u00e9\u4e16".encode(), "\u00fc".encode())
+LATE = hash_file([(0, [(1, b"a", b"1")])], 1, 2**62 + 1)
+# Two sets of each key in one group of each; the later value counts.
+MANY = hash_file([(i, [(1, b"key %d" % i, b"old"), (1, b"key %d" % i, b"value %d" % i)]) for i in range(1500)], 1500, 1500)
 LONG_KEY = b"k" * 65535
 # One word of an argument list holds at most 131,071 bytes on Linux, so longer values are tested in the crates.
 LONG_VALUE = b"v" * 131000
@@ -103,7 +128,59 @@ ROWS = {
         Step(["set", "x.tkh", "a", "1"], 3, err=b"file 0 refused at place 0\n", files={"x.tkh": b"?"})]),
     "a second set": ({}, [
         Step(["set", "x.tkh", "a", "1"], 0, files={"x.tkh": FIRST}),
-        Step(["set", "x.tkh", "b", "2"], 3, err=b"file 0 refused at place 0\n", files={"x.tkh": FIRST})]),
+        Step(["set", "x.tkh", "b", "22"], 0, files={"x.tkh": SECOND}, sums={
+            "x.tkh": "d017116b683365f8cb50f829dadf78f225a03b2e7b12f29cb56497057b6ce708"})]),
+    "a key is set again": ({"x.tkh": FIRST}, [
+        Step(["set", "x.tkh", "a", "2"], 0, files={"x.tkh": AGAIN}),
+        Step(["get", "x.tkh", "a"], 0, out=b"2\n", files={"x.tkh": AGAIN})]),
+    "a value is printed": ({"x.tkh": SECOND}, [
+        Step(["get", "x.tkh", "a"], 0, out=b"1\n", files={"x.tkh": SECOND}),
+        Step(["get", "x.tkh", "b"], 0, out=b"22\n", files={"x.tkh": SECOND})]),
+    "an empty value is printed": ({"e.tkh": one_set(b"", b"")}, [
+        Step(["get", "e.tkh", ""], 0, out=b"\n", files={"e.tkh": one_set(b"", b"")})]),
+    "a key and a value with bytes above 7f": ({"u.tkh": LETTERS}, [
+        Step(["get", "u.tkh", "\u00e9\u4e16"], 0, out="\u00fc\n".encode(), files={"u.tkh": LETTERS})]),
+    "a key behind the end of the options": ({}, [
+        Step(["set", "o.tkh", "--", "-k", "--"], 0, files={"o.tkh": one_set(b"-k", b"--")}),
+        Step(["get", "--", "o.tkh", "-k"], 0, out=b"--\n", files={"o.tkh": one_set(b"-k", b"--")})]),
+    "no record": ({"x.tkh": FIRST}, [
+        Step(["get", "x.tkh", "nokey"], 6, err=b"answer NOT_FOUND_ERROR\n", files={"x.tkh": FIRST}),
+        Step(["get", "x.foo", "a"], 1, err=b"usage\n", files={"x.tkh": FIRST})]),
+    "no file": ({}, [
+        Step(["get", "absent.tkh", "a"], 3, err=b"file 0 refused at place 0\n"),
+        Step(["remove", "absent.tkh", "a"], 3, err=b"file 0 refused at place 0\n")]),
+    "an empty file has no record": ({"x.tkh": b""}, [
+        Step(["get", "x.tkh", "a"], 3, err=b"file 0 refused at place 0\n", files={"x.tkh": b""}),
+        Step(["remove", "x.tkh", "a"], 3, err=b"file 0 refused at place 0\n", files={"x.tkh": b""})]),
+    "a removed key": ({"x.tkh": FIRST}, [
+        Step(["remove", "x.tkh", "a"], 0, files={"x.tkh": REMOVED}),
+        Step(["get", "x.tkh", "a"], 6, err=b"answer NOT_FOUND_ERROR\n", files={"x.tkh": REMOVED}),
+        Step(["remove", "x.tkh", "a"], 6, err=b"answer NOT_FOUND_ERROR\n", files={"x.tkh": REMOVED_TWICE}),
+        Step(["set", "x.tkh", "a", "3"], 0, files={"x.tkh": hash_file(
+            [(0, [(1, b"a", b"1")]), (1, [(2, b"a", b"")]), (3, [(1, b"a", b"3")])], 1, 4)})]),
+    "many records": ({"m.tkh": MANY}, [
+        Step(["get", "m.tkh", "key 7"], 0, out=b"value 7\n", files={"m.tkh": MANY}),
+        Step(["get", "m.tkh", "key 1499"], 0, out=b"value 1499\n", files={"m.tkh": MANY}),
+        Step(["get", "m.tkh", "key 1500"], 6, err=b"answer NOT_FOUND_ERROR\n", files={"m.tkh": MANY})]),
+    "a file cut by one byte": refused(SECOND[:-1], 32),
+    "a byte too many": refused(SECOND + b"\0", 32),
+    "another file's first letters": refused(b"!" + SECOND[1:], 0),
+    "a flipped byte of the header": refused(flipped(SECOND, 15), 0),
+    "a flipped byte of the closing part": refused(flipped(SECOND, 47), 32),
+    "a file that was left open": refused(SECOND[:32] + left_open() + SECOND[64:], 32),
+    "a flipped byte of a head": refused(flipped(SECOND, 64 + 8 * (mix(b"a") >> 54) + 7), 64 + 8 * (mix(b"a") >> 54)),
+    "a flipped byte of an unused head": refused(flipped(SECOND, 64 + 8 * 1023), 64 + 8 * 1023),
+    "a flipped byte of a block's head": refused(flipped(SECOND, 8256 + 11), 8256),
+    "a flipped byte of a block's link": refused(flipped(SECOND, 8304 + 23), 8304 + 16),
+    "a flipped byte of a block's body": refused(flipped(SECOND, 8256 + 40), 8256),
+    "a flipped byte of a block's padding": refused(flipped(SECOND, 8303), 8256),
+    "a number used twice": refused(hash_file([(0, [(1, b"a", b"1")]), (0, [(1, b"b", b"2")])], 2, 1), 8304),
+    "a wrong count of records": refused(hash_file([(0, [(1, b"a", b"1")])], 2, 1), 32),
+    "a next number that is used": refused(hash_file([(5, [(1, b"a", b"1")])], 1, 5), 32),
+    "a next number that is too great to write": ({"x.tkh": LATE}, [
+        Step(["set", "x.tkh", "b", "2"], 3, err=b"file 0 refused at place 48\n", files={"x.tkh": LATE}),
+        Step(["get", "x.tkh", "a"], 0, out=b"1\n", files={"x.tkh": LATE})]),
+    "a file of tree pages": refused(hash_file([(0, [(1, b"a", b"1")])], 1, 1, kind=3, order=1), 8),
 }
 
 
