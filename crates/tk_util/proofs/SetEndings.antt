@@ -1,5 +1,5 @@
 -- `set` on a file that has bytes.
-use Rattle.std.proofs.Common.{◌≡◌, ◌≢◌, ℕ, List, [], refl, sym, ◌∙◌, ap, subst}
+use Rattle.std.proofs.Common.{◌≡◌, ◌≢◌, ℕ, true, List, [], refl, sym, ◌∙◌, ap, subst, inr}
 use Rattle.std.specs.Prelude.{Option, Some, None, IfSome, OnOk, Result, Ok, Err}
 use Rattle.tk_disk.specs.declared.disk.DiskError.{DiskError}
 use Rattle.tk_status.specs.declared.Status.{Status}
@@ -10,7 +10,12 @@ use Rattle.tk_util.specs.declared.call.Stop.{Stop}
 use Rattle.tk_util.specs.declared.call.Stop.TheVariants as stops
 use Rattle.tk_util.specs.Done.{FreshAnswer}
 use Rattle.tk_util.specs.Ends.{call_end}
-use Rattle.tk_util.proofs.Endings.{not_status, other_status}
+use Rattle.tk_util.proofs.Endings.{not_status, other_status, ran_stopped}
+use Rattle.tk_disk.specs.Folder.{or_empty, SameBut}
+use Rattle.tk_proc.specs.Replies.{set_reply}
+use Rattle.tk_util.specs.Ran.{RanSet}
+use Rattle.tk_util.specs.Words.{SetWords}
+use Rattle.tk_util.specs.World.{World}
 
 -- what is said of a disk after a call that left it
 pub moved : (o m : Option (List ℕ)) (P : List ℕ → Type 0) → IfSome o (λ f. f ≢ [] → m ≡ o) → IfSome m P → IfSome o (λ f. f ≢ [] → P f)
@@ -51,3 +56,14 @@ memory_end (Err stops.Full) (Ok g) finish is e = absurd (not_status finish (answ
 memory_end (Err stops.Full) (Err x) finish is e = absurd (not_status finish (ended 4) 5 is (λ h. cc h) e)
 memory_end (Err stops.Fault) given finish is e = absurd (not_status finish (ended 4) 5 is (λ h. cc h) e)
 memory_end (Err stops.NoMemory) given finish is e = refl
+
+-- nothing was done: an end for want of memory leaves it so
+pub not_made : (c : SetWords) (before after : World) → after.files c.file ≡ before.files c.file → SameBut c.file before.files after.files → after.left ≡ before.left → after.held ≡ before.held
+    → (end : Finish) × (end.status ≢ 4) × RanSet c before after end
+not_made c before after same others left held = (ended 5, (λ h. cc h), record {
+  fresh = λ empty e. absurd (cc e);
+  fresh_ends = λ empty. ((λ h. cc h), (λ h. cc h));
+  more = λ bytes. ran_stopped true (set_reply c.value true) c.key (before.files c.file) (after.files c.file) (ended 5) (inr refl) same;
+  no_memory = λ e. ap or_empty same;
+  only = record { others = others; left = left; held = held };
+})

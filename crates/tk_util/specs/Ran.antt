@@ -48,13 +48,13 @@ pub record Filled (writable : Bool) (reply : Option (List ℕ) → Reply) (key f
   pub full : passes f (reply_changes reply holds.groups key) ≡ true
   pub after_is : after ≡ Some f
 
--- the file is no hash file, and stays
+-- the file was refused, and stays
 pub record Refused (writable : Bool) (f : List ℕ) (before after : Option (List ℕ)) (finish : Finish) : Type 0 where
   pub at : RefusedAt writable f finish.place
   pub ends : finish ≡ refused_at 0 finish.place
   pub after_is : after ≡ before
 
--- one call on a file; an absent file is as an empty one
+-- one call on a file; an absent file is as an empty one, which is refused
 pub record RanCall (writable : Bool) (reply : Option (List ℕ) → Reply) (key : List ℕ) (before after : Option (List ℕ)) (finish : Finish) : Type 0 where
   pub done : finish.status ≡ 0 → Replied writable reply key (or_empty before) after finish
   pub answers : finish.status ≡ 6 → Replied writable reply key (or_empty before) after finish ⊎ Filled writable reply key (or_empty before) after finish
@@ -87,7 +87,7 @@ pub record IsLine (key f line : List ℕ) : Type 0 where
   pub found : value_in holds.groups key ≡ Some value
   pub line_is : line ≡ value ++ 10 ∷ []
 
--- `get`: the file stays as it is, and the value's bytes and LF go out
+-- `get`: the value's bytes and LF go out, and the file, where it was no fault, stays as it is
 pub record RanGet (c : KeyWords) (before after : World) (finish : Finish) : Type 0 where
   pub call : RanCall false get_reply c.key (before.files c.file) (after.files c.file) finish
   pub others : SameBut c.file before.files after.files
@@ -100,6 +100,22 @@ abbrev pub Ran : Command → (before after : World) → Finish → Type 0
 Ran (Get c) before after finish = RanGet c before after finish
 Ran (Set c) before after finish = RanSet c before after finish
 Ran (Remove c) before after finish = RanRemove c before after finish
+
+-- the file of a command
+abbrev pub file_of : Command → List ℕ
+file_of (Get c) = c.file
+file_of (Set c) = c.file
+file_of (Remove c) = c.file
+
+-- what a command leaves in its file, by an end
+abbrev pub RanFile : Command → (before after : World) → Finish → Type 0
+RanFile (Get c) before after finish = RanCall false get_reply c.key (before.files c.file) (after.files c.file) finish
+RanFile (Set c) before after finish = RanSet c before after finish
+RanFile (Remove c) before after finish = RanCall true remove_reply c.key (before.files c.file) (after.files c.file) finish
+
+-- the file is as an end without a fault leaves it
+abbrev pub Settled : Command → (before after : World) → Type 0
+Settled c before after = (end : Finish) × (end.status ≢ 4) × RanFile c before after end
 
 -- a command whose words were read ends with one of these statuses
 abbrev pub IsRunStatus : ℕ → Type 0

@@ -5,7 +5,8 @@ ghost use Rattle.tk_disk.specs.Folder.{NoneOut};
 ghost use Rattle.tk_proc.specs.Replies.{get_reply, remove_reply};
 ghost use Rattle.tk_util.specs.Asked.{key_said};
 ghost use Rattle.tk_util.specs.Done.{CallDone, IsMade, LookedUp};
-ghost use Rattle.tk_util.specs.Ran.{RanGet, RanRemove, IsRunStatus, IsEnd};
+ghost use Rattle.tk_util.specs.Ran.{RanGet, RanRemove, Settled, IsRunStatus, IsEnd};
+ghost use Rattle.tk_util.specs.Words.{Get, Remove};
 
 use crate::call::{Called, Stop, run_call};
 use crate::end::{end_of, print, with_status};
@@ -53,6 +54,9 @@ pub(crate) fn run_remove<F: Folder>(
     requires home { NoneOut (F.is_out folder.old) }
     ensures ran { (left held : Option (List ℕ)) → F.tells folder.old ≡ true
         → RanRemove (key_said remove.entry) (record { files = F.file folder.old; left = left; held = held }) (record { files = F.file folder.new; left = left; held = held }) result }
+    ensures settled { (left held : Option (List ℕ)) → F.tells folder.old ≡ true
+        → Settled (Remove (key_said remove.entry)) (record { files = F.file folder.old; left = left; held = held }) (record { files = F.file folder.new; left = left; held = held })
+        ⊎ Rose (F.disk_faults folder.old remove.entry.file.now) (F.disk_faults folder.new remove.entry.file.now) }
     ensures fields { IsEnd result }
     ensures status { IsRunStatus result.status }
     ensures fault { result.status ≡ 4 → Rose (F.fault_count folder.old) (F.fault_count folder.new)
@@ -80,6 +84,9 @@ fn look_up<F: Folder>(
     requires key { length get.key.now < 2 ^ 16 }
     requires home { NoneOut (F.is_out folder.old) }
     ensures ran { F.tells folder.old ≡ true → LookedUp (key_said get.entry) (F.file folder.old) (F.file folder.new) getter.new result }
+    ensures settled { (left held : Option (List ℕ)) → F.tells folder.old ≡ true
+        → Settled (Get (key_said get.entry)) (record { files = F.file folder.old; left = left; held = held }) (record { files = F.file folder.new; left = left; held = held })
+        ⊎ Rose (F.disk_faults folder.old get.entry.file.now) (F.disk_faults folder.new get.entry.file.now) }
     ensures found { result.status ≡ 0 → IsSome getter.new }
     ensures fields { IsEnd result }
     ensures status { IsRunStatus result.status }
@@ -109,6 +116,9 @@ pub(crate) fn run_get<F: Folder, W: Sink>(
     requires home { NoneOut (F.is_out folder.old) }
     ensures ran { (left : Option (List ℕ)) → F.tells folder.old ≡ true
         → RanGet (key_said get.entry) (record { files = F.file folder.old; left = left; held = W.held out.old }) (record { files = F.file folder.new; left = left; held = W.held out.new }) result }
+    ensures settled { (left held : Option (List ℕ)) → F.tells folder.old ≡ true
+        → Settled (Get (key_said get.entry)) (record { files = F.file folder.old; left = left; held = held }) (record { files = F.file folder.new; left = left; held = held })
+        ⊎ Rose (F.disk_faults folder.old get.entry.file.now) (F.disk_faults folder.new get.entry.file.now) }
     ensures fields { IsEnd result }
     ensures status { IsRunStatus result.status }
     ensures fault { result.status ≡ 4 → Rose (F.fault_count folder.old) (F.fault_count folder.new)

@@ -2,7 +2,7 @@ ghost use Rattle.std.specs.Prelude.{◌≡◌, ◌⊎◌, ◌↔◌, ℕ, List, 
 ghost use Rattle.tk_disk.specs.Disk.{Rose};
 ghost use Rattle.tk_disk.specs.Folder.{NoneOut};
 ghost use Rattle.tk_util.specs.Words.{Command, command_of, words_of};
-ghost use Rattle.tk_util.specs.Ran.{Ran, IsRunStatus, IsEnd};
+ghost use Rattle.tk_util.specs.Ran.{Ran, Settled, file_of, IsRunStatus, IsEnd};
 
 use crate::key::{run_get, run_remove};
 use crate::set::run_set;
@@ -25,6 +25,9 @@ pub fn run_util<F: Folder, R: Source, W: Sink>(
     ensures untouched { result.status ≡ 1 → ((name : List ℕ) → F.file folder.new name ≡ F.file folder.old name) × (W.held out.new ≡ W.held out.old) }
     ensures ran { (c : Command) → command_of (words_of words.now) ≡ Some c → F.tells folder.old ≡ true
         → Ran c (record { files = F.file folder.old; left = R.left source.old; held = W.held out.old }) (record { files = F.file folder.new; left = R.left source.new; held = W.held out.new }) result }
+    ensures settled { (c : Command) → command_of (words_of words.now) ≡ Some c → F.tells folder.old ≡ true
+        → Settled c (record { files = F.file folder.old; left = R.left source.old; held = W.held out.old }) (record { files = F.file folder.new; left = R.left source.new; held = W.held out.old })
+        ⊎ Rose (F.disk_faults folder.old (file_of c)) (F.disk_faults folder.new (file_of c)) }
     ensures left { R.left source.new ≡ R.left source.old }
     ensures fields { IsEnd result }
     ensures status { (c : Command) → command_of (words_of words.now) ≡ Some c → IsRunStatus result.status }

@@ -6,7 +6,8 @@ ghost use Rattle.tk_append.specs.Fresh.{AllPairsSmall, fresh_text, fresh_size};
 ghost use Rattle.tk_proc.specs.Replies.{set_reply};
 ghost use Rattle.tk_util.specs.Asked.{set_said};
 ghost use Rattle.tk_util.specs.Done.{CallDone, FreshAnswer};
-ghost use Rattle.tk_util.specs.Ran.{RanSet, new_head, set_text, IsRunStatus, IsEnd};
+ghost use Rattle.tk_util.specs.Ran.{RanSet, Settled, new_head, set_text, IsRunStatus, IsEnd};
+ghost use Rattle.tk_util.specs.Words.{Set};
 
 use crate::call::{Called, Stop, run_call};
 use crate::end::{end_of, with_status};
@@ -126,6 +127,9 @@ pub(crate) fn run_set<F: Folder>(alloc: Global, set: SetOperands<'_>, folder: &m
     requires home { NoneOut (F.is_out folder.old) }
     ensures ran { (left held : Option (List ℕ)) → F.tells folder.old ≡ true
         → RanSet (set_said set.entry) (record { files = F.file folder.old; left = left; held = held }) (record { files = F.file folder.new; left = left; held = held }) result }
+    ensures settled { (left held : Option (List ℕ)) → F.tells folder.old ≡ true
+        → Settled (Set (set_said set.entry)) (record { files = F.file folder.old; left = left; held = held }) (record { files = F.file folder.new; left = left; held = held })
+        ⊎ Rose (F.disk_faults folder.old set.entry.file.now) (F.disk_faults folder.new set.entry.file.now) }
     ensures fields { IsEnd result }
     ensures status { IsRunStatus result.status }
     ensures fault { result.status ≡ 4 → Rose (F.fault_count folder.old) (F.fault_count folder.new)

@@ -1,5 +1,6 @@
-use Rattle.std.proofs.Common.{refl, ◌∙◌}
-use Rattle.tk_util.proofs.Endings.{ran_call, ran_absent, empty_refused, there, from_none, from_some, on_some, two_names}
+use Rattle.std.proofs.Common.{refl, ◌∙◌, inl, inr}
+use Rattle.tk_status.specs.Finish.{ended}
+use Rattle.tk_util.proofs.Endings.{ran_call, ran_absent, ran_stopped, empty_refused, there, from_none, from_some, on_some, two_names, not_status, settled_call, rose_moved}
 use Rattle.tk_util.proofs.key.run_remove.Goals as goal
 
 pub returns-in-Ok-None-clause-ran : goal.returns-in-Ok-None-clause-ran
@@ -18,3 +19,14 @@ returns-clause-ran g c = λ left held tells. record {
       c.end_of.ensures;
   only = record { others = two_names _ _ _ _ c.take.ensures.others c.give-given.ensures.others; left = refl; held = refl };
 }
+
+pub returns-in-Ok-None-clause-settled : goal.returns-in-Ok-None-clause-settled
+returns-in-Ok-None-clause-settled g c = λ left held tells. inl (c.refused.result, (λ e. not_status _ _ 4 c.refused.ensures (λ h. cc h) e), (returns-in-Ok-None-clause-ran g c left held tells).call)
+
+pub returns-clause-settled : goal.returns-clause-settled
+returns-clause-settled g c = λ left held tells.
+    settled_call _ _ _ _ _ _ _ _ _ (there _ (on_some _ _ c.in-Ok-Some.field-0-is c.in-Ok-Some.ensures.there refl tells)) (from_some _ _ _ c.in-Ok-Some.field-0-is c.in-Ok-Some.ensures.image tells)
+    c.remove_from-disk.ensures.call (c.give-given.ensures.here (c.take.ensures.tells ∙ tells)) (λ e. rose_moved _ _ _ _ (from_some _ _ _ c.in-Ok-Some.field-0-is c.in-Ok-Some.ensures.count) c.give-given.ensures.count (c.remove_from-disk.ensures.fault e))
+
+pub returns-in-Err-Fault-clause-settled : goal.returns-in-Err-Fault-clause-settled
+returns-in-Err-Fault-clause-settled g c = λ left held tells. inl (ended 5, (λ h. cc h), ran_stopped _ _ _ _ _ (ended 5) (inr refl) c.in-Err-Fault.ensures.err_same)
