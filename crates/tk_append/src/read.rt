@@ -17,6 +17,7 @@ use tk_disk::{Disk, DiskError};
 use tk_model::{NoMemory, OpenError, ShardOf, Unopened};
 
 /// The log of a file that was read, with its records, the newest block of each bucket and its next number.
+#[derive(Drop)]
 pub struct ReadLog<D: Disk> {
     pub log: GroupLog<D>,
     pub records: HashedRecords,
