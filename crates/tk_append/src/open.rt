@@ -39,8 +39,8 @@ fn begin<D: Disk>(log: &mut GroupLog<D>, writable: bool) -> Result<(), DiskError
     }
 }
 
-/// Opens a file of a set or of an updating set: reads and checks all of it, and where it is to be written, makes it
-/// durable that the file is open. The disk is handed back where it is refused.
+/// Opens an appending file, or one of tree pages. Where it is to be written, it is made durable that the file is open.
+/// The disk is handed back where it is refused.
 pub fn open_log<D: Disk>(
     alloc: Global,
     disk: D,
