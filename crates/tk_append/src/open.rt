@@ -20,6 +20,7 @@ use tk_disk::{Disk, DiskError};
 use tk_model::{OpenError, ShardOf, Unopened};
 
 /// Makes it durable that a file that is to be written is open.
+#[tactic(auto, using(crate::proofs::Readings::untorn))]
 fn begin<D: Disk>(log: &mut GroupLog<D>, writable: bool) -> Result<(), DiskError>
     requires groups { (groups : List Group) × Stands D.image log.old groups }
     ensures stands { (groups : List Group) → Stands D.image log.old groups → OnOk result (Stands D.image log.new groups) }
@@ -28,7 +29,7 @@ fn begin<D: Disk>(log: &mut GroupLog<D>, writable: bool) -> Result<(), DiskError
     ensures marked { writable ≡ true → OnOk result (D.image (log_disk log.new) ≡ option_map (with_closing open_mark) (D.image (log_disk log.old))) }
     ensures told { is_some (D.image (log_disk log.new)) ≡ is_some (D.image (log_disk log.old)) }
     ensures cause { HasCause (D.fault_count (log_disk log.old)) (D.fault_count (log_disk log.new)) result }
-    ensures crash { writable ≡ true → Follows (Torn 32 32) (D.may_leave (log_disk log.old)) (D.may_leave (log_disk log.new)) }
+    ensures crash { Follows (Torn 32 32) (D.may_leave (log_disk log.old)) (D.may_leave (log_disk log.new)) }
     ensures crash_reads { writable ≡ false → Within (D.may_leave (log_disk log.old)) (D.may_leave (log_disk log.new)) }
     ensures durable { writable ≡ true → OnOk result (IfSome (D.image (log_disk log.new)) (λ f. Only f (D.may_leave (log_disk log.new)))) }
 {
@@ -41,6 +42,7 @@ fn begin<D: Disk>(log: &mut GroupLog<D>, writable: bool) -> Result<(), DiskError
 
 /// Opens an appending file, or one of tree pages. Where it is to be written, it is made durable that the file is open.
 /// The disk is handed back where it is refused.
+#[tactic(auto, using(crate::proofs::Readings::untorn, crate::proofs::Readings::torn_later))]
 pub fn open_log<D: Disk>(
     alloc: Global,
     disk: D,
@@ -58,7 +60,8 @@ pub fn open_log<D: Disk>(
     ensures back_reads { writable ≡ false → IfErr result (λ u. D.image u.disk ≡ D.image disk) }
     ensures back_told { IfErr result (λ u. is_some (D.image u.disk) ≡ is_some (D.image disk)) }
     ensures durable { writable ≡ true → IfOk result (λ log. IfSome (D.image (log_disk log)) (λ f. Only f (D.may_leave (log_disk log)))) }
-    ensures crash { writable ≡ true → IfOk result (λ log. Follows (Torn 32 32) (D.may_leave disk) (D.may_leave (log_disk log))) }
+    ensures crash { IfOk result (λ log. Follows (Torn 32 32) (D.may_leave disk) (D.may_leave (log_disk log))) }
+    ensures back_crash { IfErr result (λ u. Follows (Torn 32 32) (D.may_leave disk) (D.may_leave u.disk)) }
     ensures crash_reads { writable ≡ false → IfOk result (λ log. Within (D.may_leave disk) (D.may_leave (log_disk log))) }
     ensures counted { IfOk result (λ log. D.fault_count (log_disk log) ≡ D.fault_count disk) }
     ensures later { IfErr result (λ u. D.fault_count disk ≤ D.fault_count u.disk) }
