@@ -33,11 +33,7 @@ fn begin<D: Disk>(log: &mut GroupLog<D>, writable: bool) -> Result<(), DiskError
     ensures crash_reads { writable ≡ false → Within (D.may_leave (log_disk log.old)) (D.may_leave (log_disk log.new)) }
     ensures durable { writable ≡ true → OnOk result (IfSome (D.image (log_disk log.new)) (λ f. Only f (D.may_leave (log_disk log.new)))) }
 {
-    if writable {
-        log.mark_open()
-    } else {
-        Ok(())
-    }
+    if writable { log.mark_open() } else { Ok(()) }
 }
 
 /// Opens an appending file, or one of tree pages. Where it is to be written, it is made durable that the file is open.
