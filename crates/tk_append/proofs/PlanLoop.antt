@@ -1,9 +1,8 @@
 -- A plan of a group, a change at a time.
-use Rattle.std.proofs.Common.{◌≡◌, ℕ, ◌+◌, ◌^◌, Bool, List, [], ◌∷◌, ◌++◌, length, drop, refl, sym, ◌∙◌, ap, subst, append_assoc}
+use Rattle.std.proofs.Common.{◌≡◌, ℕ, ◌+◌, ◌^◌, List, [], ◌∷◌, ◌++◌, length, drop, refl, sym, ◌∙◌, ap, subst, append_assoc}
 use Rattle.tk_model.specs.declared.record.Change.{Change}
 use Rattle.tk_model.specs.declared.record.Change.TheVariants as changes
 use Rattle.tk_model.specs.Records.{AllFit}
-use Rattle.tk_block.specs.declared.block.Body.{Body}
 use Rattle.tk_block.specs.Blocks.{body_of, is_nil, group_bodies, extent_of}
 use Rattle.tk_block.specs.Layout.{Placed, laid, links_of, link_of, end_of}
 use Rattle.std.proofs.lemmas.List.{append-nil}

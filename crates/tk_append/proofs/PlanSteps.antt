@@ -1,11 +1,11 @@
 -- The newest blocks of buckets, with one block more.
-use Rattle.std.proofs.Common.{◌≡◌, ℕ, ◌+◌, ◌<◌, ◌^◌, Bool, cond, true, false, List, [], ◌∷◌, ◌++◌, length, get_or, refl, sym, ◌∙◌, ap, subst, inl, inr, arith, get_or-set_same, get_or-set_other}
+use Rattle.std.proofs.Common.{◌≡◌, ℕ, ◌<◌, ◌^◌, Bool, cond, true, false, List, [], ◌∷◌, ◌++◌, length, get_or, refl, sym, ◌∙◌, ap, subst, inl, inr, arith, get_or-set_same, get_or-set_other}
 use Rattle.std.specs.Prelude.{◌&&◌, ◌||◌, ◌==◌, if◌then◌else◌}
 use Rattle.std.proofs.Math.ListN.{set, replicate}
 use Rattle.std.proofs.lemmas.Bool.{eq-eqb, ne_eqb, cases_eq}
 use Rattle.std.proofs.lemmas.List.{length-replicate, get_or-replicate, length-set}
 use Rattle.tk_block.specs.declared.block.Body.{Body}
-use Rattle.tk_block.specs.Layout.{Placed, newest, renewed, link_of, bucket_in, is_in}
+use Rattle.tk_block.specs.Layout.{Placed, newest, renewed, link_of, bucket_in}
 use Rattle.tk_block.proofs.Layouts.{newest-append}
 use Rattle.tk_model.specs.declared.record.Pair.{Pair}
 use Rattle.tk_model.specs.declared.record.Change.{Change}

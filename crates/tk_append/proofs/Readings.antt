@@ -1,5 +1,5 @@
 -- The log of a file that was read has its groups.
-use Rattle.std.proofs.Common.{◌≡◌, ℕ, List, [], ◌++◌, length, drop, sym, ◌∙◌, ap, subst, arith, append_assoc}
+use Rattle.std.proofs.Common.{◌≡◌, ◌≤◌, ℕ, List, [], ◌++◌, length, drop, refl, sym, ◌∙◌, ap, subst, arith, append_assoc}
 use Rattle.std.specs.Prelude.{Bool, Option, Some, None, IfSome}
 use Rattle.std.proofs.lemmas.List.{drop_at, length-append}
 use Rattle.tk_model.specs.declared.record.Group.{Group}
@@ -10,6 +10,8 @@ use Rattle.tk_block.specs.Text.{static_text, closing_text, base_of}
 use Rattle.tk_block.specs.Layout.{end_of, bodies_of, heads_text, texts, links_of, file_text}
 use Rattle.tk_block.proofs.Grammar.{length-static_text, length-closing_text}
 use Rattle.tk_block.proofs.Lengths.{length-heads_text, length-file_text}
+use Rattle.tk_disk.specs.Crash.{Torn, Follows, Within}
+use Rattle.tk_append.proofs.Layouts.{end_of-least}
 use Rattle.tk_append.specs.Log.{HasGroups, IsRead, AllHome, blocks_of, closed_text}
 use Rattle.tk_append.specs.LogParts.{Stands, log_disk, log_head, log_end}
 use Rattle.tk_append.specs.Read.{IsClosedOn, HasRead}
@@ -61,3 +63,18 @@ read_of image disk log kinds writable shard found is head end same =
       text = if_some (image disk) (λ f. f ≡ is.bytes) (λ f. f ≡ closed_text (log_head log) groups found.closing.next) is.told
           (λ f same_bytes. same_bytes ∙ is.closed.text ∙ ap (λ (h : StaticHead). closed_text h groups found.closing.next) (sym head));
     }
+
+-- a file of groups has its header
+pub header_there : {D : Type 0} (image : D → Option (List ℕ)) (log : GroupLog D) (groups : List Group) → Stands image log groups → IfSome (image (log_disk log)) (λ f. 64 ≤ length f)
+header_there image log groups is =
+    if_some (image (log_disk log)) (HasGroups (log_head log) groups) (λ f. 64 ≤ length f) is.there
+    (λ f has. omega (arith, has.size, end_of-least (base_of (log_head log).p) (bodies_of groups)))
+
+-- a crash that leaves nothing new tears nothing
+pub untorn : (old new : List ℕ → Type 0) → Within old new → Follows (Torn 32 32) old new
+untorn old new within c left = (c, within c left, record { no_shorter = omega arith; same = λ i short outside. refl })
+
+-- a write after a reading
+pub torn_later : (old mid new : List ℕ → Type 0) → Within old mid → Follows (Torn 32 32) mid new → Follows (Torn 32 32) old new
+torn_later old mid new within follows c left =
+    let before = follows c left in (before.0, within before.0 before.1, before.2)

@@ -4,6 +4,7 @@ pub mod Fresh
 pub mod Hashed
 pub mod Log
 pub mod LogParts
+pub mod Opened
 pub mod Opening
 pub mod OpeningLaws
 pub mod Pieces

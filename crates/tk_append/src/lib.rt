@@ -8,6 +8,7 @@ mod fresh;
 mod hashed;
 mod law;
 mod log;
+mod open;
 mod pieces;
 mod plan;
 mod read;
@@ -17,6 +18,7 @@ pub use fresh::write_fresh;
 pub use hashed::HashedRecords;
 pub use law::closed_files_open;
 pub use log::GroupLog;
+pub use open::{check_all, open_log};
 pub use plan::{Plan, extent_of_change, plan_group};
 pub use read::{ReadLog, read_log};
 

@@ -20,6 +20,7 @@ use tk_disk::{Disk, DiskError};
 use tk_model::{Bytes, ChangeList, NoMemory};
 
 /// A file that groups are added to, each by one write.
+#[derive(Drop)]
 pub struct GroupLog<D: Disk> {
     disk: D,
     head: StaticHead,

@@ -1,7 +1,8 @@
-ghost use Rattle.std.specs.Prelude.{◌≡◌, ◌≤◌, ◌<◌, ◌^◌, ◌==◌, true, length, IfOk, IfErr, IfSome, MatchResult, OnOk};
+ghost use Rattle.std.specs.Prelude.{◌≡◌, ◌≤◌, ◌<◌, ◌^◌, ◌==◌, true, Some, length, IfOk, IfErr, IfSome, MatchResult, OnOk};
 ghost use Rattle.std.specs.List.{list_any};
 ghost use Rattle.tk_model.specs.declared.error.OpenError.TheVariants as OpenError;
 ghost use Rattle.tk_disk.specs.Disk.{Rose};
+ghost use Rattle.tk_block.specs.Text.{static_at};
 ghost use Rattle.tk_append.specs.Opening.{first_fault};
 ghost use Rattle.tk_append.specs.Log.{Tells};
 ghost use Rattle.tk_append.specs.LogParts.{log_disk, log_head};
@@ -16,6 +17,7 @@ use tk_disk::{Disk, DiskError};
 use tk_model::{NoMemory, OpenError, ShardOf, Unopened};
 
 /// The log of a file that was read, with its records, the newest block of each bucket and its next number.
+#[derive(Drop)]
 pub struct ReadLog<D: Disk> {
     pub log: GroupLog<D>,
     pub records: HashedRecords,
@@ -79,7 +81,7 @@ fn read_all<D: Disk>(alloc: Global, disk: &mut D) -> Result<Vec<u8>, OpenError>
 }
 
 /// Checks the disk's file.
-fn check_disk<D: Disk>(
+pub(crate) fn check_disk<D: Disk>(
     alloc: Global,
     disk: &mut D,
     kinds: &[u8],
@@ -89,6 +91,7 @@ fn check_disk<D: Disk>(
     requires shard { shard.index < shard.of }
     ensures exact { IfSome (D.image disk.old) (λ f. TellsResult result (first_fault kinds.now writable shard f)) }
     ensures closed { IfOk result (λ found. IsClosedOn (D.image disk.old) kinds.now writable shard found) }
+    ensures head { IfSome (D.image disk.old) (λ f. IfOk result (λ found. static_at f ≡ Some found.head)) }
     ensures image { D.image disk.new ≡ D.image disk.old }
     ensures cause { HasOpenCause (D.fault_count disk.old) (D.fault_count disk.new) result }
     ensures still { OnlyReads D.may_leave D.moment D.left_since disk.old disk.new }

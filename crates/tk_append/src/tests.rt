@@ -6,7 +6,7 @@ use std::alloc::Global;
 use std::test::Fail;
 use tk_block::StaticHead;
 use tk_disk::MemDisk;
-use tk_model::{Bytes, FaultList, NoMemory, Pair, PairList, fnv64};
+use tk_model::{Bytes, FaultList, NoMemory, OpenError, Pair, PairList, ShardOf, fnv64};
 
 fn head_of(kind: u8, p: u8) -> StaticHead
     ensures { result ≡ record { kind = kind; version = 1; p = p; order = 0; generation = 0 } }
@@ -40,6 +40,22 @@ fn sum_of(disk: &MemDisk) -> (usize, u64) {
     (bytes.len(), fnv64(bytes))
 }
 
+/// A disk of a set with no records.
+fn fresh_disk(alloc: Global) -> Result<MemDisk, Fail> {
+    let mut disk = empty_disk(alloc)?;
+    write_fresh(alloc, &mut disk, &head_of(1, 0), &PairList::new(alloc))?;
+    Ok(disk)
+}
+
+fn without_last(bytes: &[u8]) -> &[u8] {
+    match bytes.split_last() {
+        Some((_, rest)) => rest,
+        None => bytes,
+    }
+}
+
+const ALONE: ShardOf = ShardOf { index: 0, of: 1 };
+
 #[test]
 fn three_records_in_one_bucket(rt: HostRuntime) -> Result<(), Fail> {
     let alloc = rt.alloc();
@@ -71,5 +87,34 @@ fn an_updating_file(rt: HostRuntime) -> Result<(), Fail> {
     let mut disk = empty_disk(alloc)?;
     write_fresh(alloc, &mut disk, &head_of(2, 0), &pairs)?;
     assert_eq!(rt; sum_of(&disk), (168, 0x8ca89d64b967e769));
+    Ok(())
+}
+
+#[test]
+fn a_fresh_file_is_opened(rt: HostRuntime) -> Result<(), Fail> {
+    let alloc = rt.alloc();
+    let opened = open_log(alloc, fresh_disk(alloc)?, true, ALONE);
+    assert!(rt; opened.is_ok_and(|log| log.end() == 72));
+    Ok(())
+}
+
+#[test]
+fn a_file_without_its_last_byte_is_refused(rt: HostRuntime) -> Result<(), Fail> {
+    let alloc = rt.alloc();
+    let whole = fresh_disk(alloc)?;
+    let bytes = Bytes::from_slice(alloc, without_last(whole.bytes()))?;
+    let short = MemDisk::new(alloc, bytes, 4_000_000, FaultList::new(alloc))?;
+    let opened = open_log(alloc, short, true, ALONE);
+    assert!(rt; opened.is_err_and(|unopened| unopened.cause == OpenError::BrokenAt(32)));
+    Ok(())
+}
+
+#[test]
+fn a_fresh_file_is_checked(rt: HostRuntime) -> Result<(), Fail> {
+    let alloc = rt.alloc();
+    let mut disk = fresh_disk(alloc)?;
+    let head = check_all(alloc, &mut disk, true, ALONE)?;
+    assert_eq!(rt; (head.kind, head.p), (1, 0));
+    assert_eq!(rt; sum_of(&disk), (72, 0x71c84c289f5a334c));
     Ok(())
 }

@@ -1,4 +1,4 @@
-use Rattle.std.proofs.Common.{sym, ◌∙◌, refl}
+use Rattle.std.proofs.Common.{refl}
 use Rattle.tk_append.proofs.PlanSteps.{has_put, has_drop}
 use Rattle.tk_append.proofs.plan.chain_block.Goals as goal
 

@@ -1,4 +1,3 @@
-use Rattle.std.proofs.Common.{sym, ◌∙◌}
 use Rattle.tk_append.proofs.PlanSteps.{heads_more}
 use Rattle.tk_append.proofs.plan.chain_key.Goals as goal
 

@@ -1,4 +1,4 @@
-use Rattle.std.proofs.Common.{sym, ◌∙◌, ap, ℕ}
+use Rattle.std.proofs.Common.{◌∙◌, ap, ℕ}
 use Rattle.std.proofs.Math.ListN.{replicate}
 use Rattle.tk_append.proofs.PlanSteps.{cleared}
 use Rattle.tk_append.proofs.plan.clear_heads.Goals as goal

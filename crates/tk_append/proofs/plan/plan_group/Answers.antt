@@ -1,9 +1,8 @@
-use Rattle.std.proofs.Common.{◌≡◌, ℕ, ◌+◌, ◌∷◌, ◌++◌, Bool, List, [], length, take, drop, get_or, refl, sym, ◌∙◌, ap, subst, arith, length-append}
-use Rattle.std.proofs.lemmas.List.{append-nil, drop_more, drop_all, take_at}
+use Rattle.std.proofs.Common.{◌≡◌, ℕ, ◌+◌, ◌∷◌, ◌++◌, List, [], length, take, drop, sym, ◌∙◌, ap, subst, arith, length-append}
+use Rattle.std.proofs.lemmas.List.{drop_more, drop_all, take_at}
 use Rattle.tk_model.specs.declared.record.Change.{Change}
-use Rattle.tk_model.specs.Records.{AllFit}
-use Rattle.tk_block.specs.Blocks.{body_of, group_bodies, is_nil, extent_of}
-use Rattle.tk_block.specs.Layout.{Placed, laid, links_of, end_of}
+use Rattle.tk_block.specs.Blocks.{group_bodies, is_nil}
+use Rattle.tk_block.specs.Layout.{Placed, end_of}
 use Rattle.tk_block.proofs.Groups.{end_behind}
 use Rattle.tk_append.specs.Chains.{HeadsAre}
 use Rattle.tk_append.proofs.PlanLoop.{Planned, Ahead, ahead_more, all_ahead_heads, all_ahead_links, fit_rest}
