@@ -1,4 +1,4 @@
--- What an opening accepts, step by step, and what fails first in another file.
+-- What an opening of a file of kind 1 or 3 accepts, step by step, and what fails first in another file.
 use Rattle.std.specs.Prelude.{ℕ, zero, suc, ◌+◌, ◌*◌, ◌-◌, ◌^◌, List, [], ◌∷◌, ◌++◌, length, take, drop, replicate, map, Bool, true, false, not, Option, Some, None, if◌then◌else◌, ◌&&◌, ◌||◌, ◌==◌, nat_le}
 use Rattle.std.specs.List.{list_any}
 use Rattle.std.specs.Str.{bytes_eq}
@@ -35,7 +35,7 @@ abbrev pub is_in_turn : (least : ℕ) → Option Placed → Body → Bool
 is_in_turn least None b = nat_le least b.number && (not (b.kind == 4) || b.last)
 is_in_turn least (Some first) b = (b.number == first.body.number) && not (b.kind == 4)
 
--- the key of a set or remove block belongs to this file of a set
+-- in a file of kind 1 the key of a set or remove block belongs to this file of a set
 abbrev pub is_home : StaticHead → ShardOf → Body → Bool
 is_home h shard b = not (h.kind == 1) || (b.kind == 4) || holds_key shard b.key
 
@@ -43,7 +43,7 @@ is_home h shard b = not (h.kind == 1) || (b.kind == 4) || holds_key shard b.key
 abbrev pub is_padded : (bytes : List ℕ) → (extent : ℕ) → Body → Bool
 is_padded bytes e b = bytes_eq (take (e - room_of b) (drop (room_of b) bytes)) (replicate (e - room_of b) 0)
 
--- a block with this extent and body may stand at the front of these bytes: it lies within them, has the least extent, a kind, zero padding, its turn and its shard
+-- a block with this extent and body may stand at the front of these bytes: it lies within them, has the least extent, a kind that is no void, zero padding, its turn and its shard
 abbrev pub may_stand : StaticHead → ShardOf → Walk → (bytes : List ℕ) → (extent : ℕ) → Body → Bool
 may_stand h shard w bytes e b =
     nat_le e (length bytes) && (e == extent_of b) && not (b.kind == 3) && is_padded bytes e b && is_in_turn w.least w.open_group b && is_home h shard b
