@@ -60,10 +60,14 @@ memory_end (Err stops.NoMemory) given finish is e = refl
 -- nothing was done: an end for want of memory leaves it so
 pub not_made : (c : SetWords) (before after : World) → after.files c.file ≡ before.files c.file → SameBut c.file before.files after.files → after.left ≡ before.left → after.held ≡ before.held
     → (end : Finish) × (end.status ≢ 4) × RanSet c before after end
-not_made c before after same others left held = (ended 5, (λ h. cc h), record {
-  fresh = λ empty e. absurd (cc e);
-  fresh_ends = λ empty. ((λ h. cc h), (λ h. cc h));
-  more = λ bytes. ran_stopped true (set_reply c.value true) c.key (before.files c.file) (after.files c.file) (ended 5) (inr refl) same;
-  no_memory = λ e. ap or_empty same;
-  only = record { others = others; left = left; held = held };
-})
+not_made c before after same others left held = (
+  ended 5,
+  (λ h. cc h),
+  record {
+    fresh = λ empty e. absurd (cc e);
+    fresh_ends = λ empty. ((λ h. cc h), (λ h. cc h));
+    more = λ bytes. ran_stopped true (set_reply c.value true) c.key (before.files c.file) (after.files c.file) (ended 5) (inr refl) same;
+    no_memory = λ e. ap or_empty same;
+    only = record { others = others; left = left; held = held };
+  },
+)

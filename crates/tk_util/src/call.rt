@@ -57,6 +57,7 @@ fn end_call<D: Disk>(store: &mut PlainStore<D>, next: u64) -> Result<(), Stop>
         → OnOk result (IfSome (D.image (plain_disk store.old)) (λ _. D.image (plain_disk store.new)
         ≡ Some (if (plain_nature store.old).writable then closed_text (plain_head store.old) (groups ++ since) next else closed_text (plain_head store.old) groups (plain_nature store.old).next))) }
     ensures stops { (stop : Stopped) → result ≡ Err stop → stop ≡ Stop.Fault }
+    ensures kept { OnOk result (D.fault_count (plain_disk store.new) ≡ D.fault_count (plain_disk store.old)) }
     ensures later { D.fault_count (plain_disk store.old) ≤ D.fault_count (plain_disk store.new) }
     ensures fault { OnErr result (Rose (D.fault_count (plain_disk store.old)) (D.fault_count (plain_disk store.new))) }
     ensures told { is_some (D.image (plain_disk store.new)) ≡ is_some (D.image (plain_disk store.old)) }
@@ -86,6 +87,7 @@ fn call_on<D: Disk, P: RecordProcessor>(
     ensures no_memory { (groups : List Group) → PlainStands D.image store.old (opening groups) [] 0 → IfSome (D.image (plain_disk store.old)) (λ _.
         result ≡ Err Stop.NoMemory → D.image (plain_disk store.new) ≡ Some (closed_text (plain_head store.old) groups (plain_nature store.old).next)) }
     ensures taken { (place : ℕ) → result ≡ Err (Stop.Refused place) → ⊥ }
+    ensures kept { OnOk result (D.fault_count (plain_disk store.new) ≡ D.fault_count (plain_disk store.old)) }
     ensures later { D.fault_count (plain_disk store.old) ≤ D.fault_count (plain_disk store.new) }
     ensures fault { result ≡ Err Stop.Fault → Rose (D.fault_count (plain_disk store.old)) (D.fault_count (plain_disk store.new)) }
 {
@@ -121,6 +123,7 @@ pub(crate) fn run_call<D: Disk, P: RecordProcessor>(
     ensures no_room { IfSome (D.image disk) (λ f. result.answer ≡ Err Stop.Full → NoRoom P.acts writable f key.now p.old (D.image result.disk)) }
     ensures refused { IfSome (D.image disk) (λ f. (place : ℕ) → result.answer ≡ Err (Stop.Refused place) → RefusedAt writable f place × (D.image result.disk ≡ Some f)) }
     ensures no_memory { IfSome (D.image disk) (λ f. result.answer ≡ Err Stop.NoMemory → D.image result.disk ≡ Some f) }
+    ensures kept { OnOk result.answer (D.fault_count result.disk ≡ D.fault_count disk) }
     ensures later { D.fault_count disk ≤ D.fault_count result.disk }
     ensures fault { result.answer ≡ Err Stop.Fault → Rose (D.fault_count disk) (D.fault_count result.disk) }
 {

@@ -1,5 +1,5 @@
 //! `get` and `remove`: calls on a file that has to be there.
-ghost use Rattle.std.specs.Prelude.{◌≡◌, ◌≤◌, ◌<◌, ◌^◌, ◌⊎◌, ℕ, List, [], length, true, false, Option, IsSome, IfOk, IfSome, Err};
+ghost use Rattle.std.specs.Prelude.{◌≡◌, ◌≤◌, ◌<◌, ◌^◌, ◌⊎◌, ℕ, List, [], length, true, false, Option, IsSome, IfOk, IfSome, Err, OnOk};
 ghost use Rattle.tk_disk.specs.Disk.{Rose};
 ghost use Rattle.tk_disk.specs.Folder.{NoneOut};
 ghost use Rattle.tk_proc.specs.Replies.{get_reply, remove_reply};
@@ -23,6 +23,7 @@ fn get_from<D: Disk>(alloc: Global, disk: D, key: &[u8], getter: &mut Getter) ->
     ensures call { IfSome (D.image disk) (λ f. CallDone false get_reply key.now f (D.image result.disk) result.answer) }
     ensures value { IfSome (D.image disk) (λ f. IfOk result.answer (λ s. IsMade false get_reply key.now f (D.image result.disk) getter.new)) }
     ensures status { IfOk result.answer (λ s. s ≡ (get_reply getter.new).status) }
+    ensures kept { OnOk result.answer (D.fault_count result.disk ≡ D.fault_count disk) }
     ensures later { D.fault_count disk ≤ D.fault_count result.disk }
     ensures fault { result.answer ≡ Err Stop.Fault → Rose (D.fault_count disk) (D.fault_count result.disk) }
 {
@@ -35,6 +36,7 @@ fn get_from<D: Disk>(alloc: Global, disk: D, key: &[u8], getter: &mut Getter) ->
 fn remove_from<D: Disk>(alloc: Global, disk: D, key: &[u8]) -> Called<D>
     requires key { length key.now < 2 ^ 16 }
     ensures call { IfSome (D.image disk) (λ f. CallDone true remove_reply key.now f (D.image result.disk) result.answer) }
+    ensures kept { OnOk result.answer (D.fault_count result.disk ≡ D.fault_count disk) }
     ensures later { D.fault_count disk ≤ D.fault_count result.disk }
     ensures fault { result.answer ≡ Err Stop.Fault → Rose (D.fault_count disk) (D.fault_count result.disk) }
 {
@@ -59,6 +61,7 @@ pub(crate) fn run_remove<F: Folder>(
         ⊎ Rose (F.disk_faults folder.old remove.entry.file.now) (F.disk_faults folder.new remove.entry.file.now) }
     ensures fields { IsEnd result }
     ensures status { IsRunStatus result.status }
+    ensures clean { result.status ≡ 0 → (F.fault_count folder.new ≡ F.fault_count folder.old) × (F.disk_faults folder.new remove.entry.file.now ≡ F.disk_faults folder.old remove.entry.file.now) }
     ensures fault { result.status ≡ 4 → Rose (F.fault_count folder.old) (F.fault_count folder.new)
         ⊎ ((name : List ℕ) × Rose (F.disk_faults folder.old name) (F.disk_faults folder.new name)) }
     ensures closed { NoneOut (F.is_out folder.new) }
@@ -90,6 +93,7 @@ fn look_up<F: Folder>(
     ensures found { result.status ≡ 0 → IsSome getter.new }
     ensures fields { IsEnd result }
     ensures status { IsRunStatus result.status }
+    ensures clean { result.status ≡ 0 → (F.fault_count folder.new ≡ F.fault_count folder.old) × (F.disk_faults folder.new get.entry.file.now ≡ F.disk_faults folder.old get.entry.file.now) }
     ensures fault { result.status ≡ 4 → Rose (F.fault_count folder.old) (F.fault_count folder.new)
         ⊎ ((name : List ℕ) × Rose (F.disk_faults folder.old name) (F.disk_faults folder.new name)) }
     ensures closed { NoneOut (F.is_out folder.new) }
@@ -121,6 +125,7 @@ pub(crate) fn run_get<F: Folder, W: Sink>(
         ⊎ Rose (F.disk_faults folder.old get.entry.file.now) (F.disk_faults folder.new get.entry.file.now) }
     ensures fields { IsEnd result }
     ensures status { IsRunStatus result.status }
+    ensures clean { result.status ≡ 0 → (F.fault_count folder.new ≡ F.fault_count folder.old) × (F.disk_faults folder.new get.entry.file.now ≡ F.disk_faults folder.old get.entry.file.now) × (W.fault_count out.new ≡ W.fault_count out.old) }
     ensures fault { result.status ≡ 4 → Rose (F.fault_count folder.old) (F.fault_count folder.new)
         ⊎ (((name : List ℕ) × Rose (F.disk_faults folder.old name) (F.disk_faults folder.new name)) ⊎ Rose (W.fault_count out.old) (W.fault_count out.new)) }
     ensures closed { NoneOut (F.is_out folder.new) }

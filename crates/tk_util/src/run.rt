@@ -31,6 +31,8 @@ pub fn run_util<F: Folder, R: Source, W: Sink>(
     ensures left { R.left source.new ≡ R.left source.old }
     ensures fields { IsEnd result }
     ensures status { (c : Command) → command_of (words_of words.now) ≡ Some c → IsRunStatus result.status }
+    ensures clean { (c : Command) → command_of (words_of words.now) ≡ Some c → result.status ≡ 0
+        → (F.fault_count folder.new ≡ F.fault_count folder.old) × (F.disk_faults folder.new (file_of c) ≡ F.disk_faults folder.old (file_of c)) × (W.fault_count out.new ≡ W.fault_count out.old) }
     ensures fault { result.status ≡ 4 → Rose (F.fault_count folder.old) (F.fault_count folder.new)
         ⊎ (((name : List ℕ) × Rose (F.disk_faults folder.old name) (F.disk_faults folder.new name)) ⊎ Rose (W.fault_count out.old) (W.fault_count out.new)) }
     ensures closed { NoneOut (F.is_out folder.new) }

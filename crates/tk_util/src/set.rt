@@ -70,6 +70,7 @@ fn set_more<D: Disk>(alloc: Global, disk: D, key: &[u8], value: &[u8]) -> Called
     requires key { length key.now < 2 ^ 16 }
     requires value { length value.now ≤ 16777215 }
     ensures call { IfSome (D.image disk) (λ f. CallDone true (set_reply value.now true) key.now f (D.image result.disk) result.answer) }
+    ensures kept { OnOk result.answer (D.fault_count result.disk ≡ D.fault_count disk) }
     ensures later { D.fault_count disk ≤ D.fault_count result.disk }
     ensures fault { result.answer ≡ Err Stop.Fault → Rose (D.fault_count disk) (D.fault_count result.disk) }
 {
@@ -100,6 +101,7 @@ fn set_on<D: Disk>(
     ensures fresh_ends { IfSome (D.image disk) (λ f. f ≡ [] → FreshAnswer result.answer) }
     ensures more { IfSome (D.image disk) (λ f. f ≢ [] → CallDone true (set_reply value.now true) key.now f (D.image result.disk) result.answer) }
     ensures no_memory { IfSome (D.image disk) (λ f. result.answer ≡ Err Stop.NoMemory → D.image result.disk ≡ Some f) }
+    ensures kept { OnOk result.answer (D.fault_count result.disk ≡ D.fault_count disk) }
     ensures later { D.fault_count disk ≤ D.fault_count result.disk }
     ensures fault { result.answer ≡ Err Stop.Fault → Rose (D.fault_count disk) (D.fault_count result.disk) }
 {
@@ -132,6 +134,7 @@ pub(crate) fn run_set<F: Folder>(alloc: Global, set: SetOperands<'_>, folder: &m
         ⊎ Rose (F.disk_faults folder.old set.entry.file.now) (F.disk_faults folder.new set.entry.file.now) }
     ensures fields { IsEnd result }
     ensures status { IsRunStatus result.status }
+    ensures clean { result.status ≡ 0 → (F.fault_count folder.new ≡ F.fault_count folder.old) × (F.disk_faults folder.new set.entry.file.now ≡ F.disk_faults folder.old set.entry.file.now) }
     ensures fault { result.status ≡ 4 → Rose (F.fault_count folder.old) (F.fault_count folder.new)
         ⊎ ((name : List ℕ) × Rose (F.disk_faults folder.old name) (F.disk_faults folder.new name)) }
     ensures closed { NoneOut (F.is_out folder.new) }

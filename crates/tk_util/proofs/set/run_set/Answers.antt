@@ -1,4 +1,4 @@
-use Rattle.std.proofs.Common.{◌≡◌, ℕ, true, List, refl, ◌∙◌, ap, inl, inr}
+use Rattle.std.proofs.Common.{◌≡◌, ℕ, true, List, refl, ◌∙◌, ap, inl}
 use Rattle.std.specs.Prelude.{Option, Result, Ok}
 use Rattle.tk_disk.specs.Folder.{or_empty}
 use Rattle.tk_disk.specs.declared.disk.DiskError.{DiskError}
