@@ -221,18 +221,6 @@ fn a_sink_that_fails(rt: HostRuntime) -> Result<(), Fail> {
 }
 
 #[test]
-fn a_refusal_stays_where_the_disk_is_not_given_back(rt: HostRuntime) -> Result<(), Fail> {
-    let alloc = rt.alloc();
-    let get = words(alloc, &["get", "x.tkh", "a"])?;
-    let mut folder = MemFolder::new(alloc, 100_000, list_of(alloc, &[1])?);
-    let bytes = Bytes::from_slice(alloc, b"?")?;
-    let disk = MemDisk::new(alloc, bytes, 100_000, list_of(alloc, &[])?)?;
-    folder.add("x.tkh", disk)?;
-    assert_eq!(rt; run_in(alloc, &get, &mut folder).0, Finish::refused(0, 0));
-    Ok(())
-}
-
-#[test]
 fn no_file_for_a_look_up(rt: HostRuntime) -> Result<(), Fail> {
     let alloc = rt.alloc();
     let none = list_of(alloc, &[])?;
