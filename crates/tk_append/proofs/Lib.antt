@@ -2,6 +2,7 @@ pub mod Bounds
 pub mod ChainsSteps
 pub mod Checked
 pub mod ClosedFiles
+pub mod Countings
 pub mod FreshSteps
 pub mod Groupings
 pub mod Joined

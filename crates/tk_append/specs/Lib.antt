@@ -1,5 +1,7 @@
 pub mod Chains
 pub mod Checked
+pub mod FileText
+pub mod Counted
 pub mod Fresh
 pub mod Hashed
 pub mod Log
@@ -9,4 +11,5 @@ pub mod Opening
 pub mod OpeningLaws
 pub mod Pieces
 pub mod Read
+pub mod Restored
 pub mod Walked

@@ -20,7 +20,7 @@ pub use law::closed_files_open;
 pub use log::GroupLog;
 pub use open::{check_all, open_log};
 pub use plan::{Plan, extent_of_change, plan_group};
-pub use read::{ReadLog, read_log};
+pub use read::{CountedLog, ReadLog, read_counted, read_log};
 
 #[cfg(test)]
 mod tests;

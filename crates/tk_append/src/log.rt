@@ -2,7 +2,7 @@ ghost use Rattle.std.specs.Prelude.{◌≡◌, ◌+◌, ◌*◌, ◌<◌, ◌≤
 ghost use Rattle.std.specs.Option.{is_some, option_map};
 ghost use Rattle.std.specs.Int.{w64, to_be_bytes};
 ghost use Rattle.std.specs.Borrow.{Lends, sem};
-ghost use Rattle.tk_disk.specs.Crash.{Torn, Follows, Within, Only};
+ghost use Rattle.tk_disk.specs.Crash.{Torn, Follows, Within, Only, LeavesOnly};
 ghost use Rattle.tk_disk.specs.Disk.{put_at, HasCause};
 ghost use Rattle.tk_model.specs.declared.record.Change.{Change};
 ghost use Rattle.tk_model.specs.declared.record.Group.{Group};
@@ -122,6 +122,8 @@ impl<D: Disk> GroupLog<D> {
         ensures cause { HasCause (D.fault_count (log_disk self.old)) (D.fault_count (log_disk self.new)) result }
         ensures crash { (changes : List Change) (links : List ℕ) → IsReady self.old changes links
             → Follows (Torn (log_end self.old) (length (group_text (record { number = number; changes = changes }) (log_end self.old) links))) (D.may_leave (log_disk self.old)) (D.may_leave (log_disk self.new)) }
+        ensures time { (changes : List Change) (links : List ℕ) → IsReady self.old changes links
+            → LeavesOnly D.moment D.left_since (log_disk self.old) (log_disk self.new) (λ c. (d : List ℕ) × D.may_leave (log_disk self.old) d × Torn (log_end self.old) (length (group_text (record { number = number; changes = changes }) (log_end self.old) links)) d c) }
     {
         renumber(&mut self.ready, self.end, number);
         self.disk.write_at(self.end, self.ready.as_slice())?;
@@ -140,6 +142,7 @@ impl<D: Disk> GroupLog<D> {
         ensures cause { HasCause (D.fault_count (log_disk self.old)) (D.fault_count (log_disk self.new)) result }
         ensures durable { hard ≡ true → OnOk result (IfSome (D.image (log_disk self.old)) (λ f. Only f (D.may_leave (log_disk self.new)))) }
         ensures crash { Within (D.may_leave (log_disk self.old)) (D.may_leave (log_disk self.new)) }
+        ensures time { LeavesOnly D.moment D.left_since (log_disk self.old) (log_disk self.new) (D.may_leave (log_disk self.old)) }
     {
         self.disk.sync(hard)
     }
@@ -155,6 +158,7 @@ impl<D: Disk> GroupLog<D> {
         ensures taken { D.taken_count (log_disk self.new) ≡ D.taken_count (log_disk self.old) }
         ensures cause { HasCause (D.fault_count (log_disk self.old)) (D.fault_count (log_disk self.new)) result }
         ensures crash { Follows (Torn 32 32) (D.may_leave (log_disk self.old)) (D.may_leave (log_disk self.new)) }
+        ensures time { LeavesOnly D.moment D.left_since (log_disk self.old) (log_disk self.new) (λ c. (d : List ℕ) × D.may_leave (log_disk self.old) d × Torn 32 32 d c) }
     {
         self.disk.write_at(32, &write_closing(closing))
     }
@@ -171,6 +175,7 @@ impl<D: Disk> GroupLog<D> {
         ensures cause { HasCause (D.fault_count (log_disk self.old)) (D.fault_count (log_disk self.new)) result }
         ensures crash { Follows (Torn 32 32) (D.may_leave (log_disk self.old)) (D.may_leave (log_disk self.new)) }
         ensures durable { OnOk result (IfSome (D.image (log_disk self.new)) (λ f. Only f (D.may_leave (log_disk self.new)))) }
+        ensures time { LeavesOnly D.moment D.left_since (log_disk self.old) (log_disk self.new) (λ c. (d : List ℕ) × D.may_leave (log_disk self.old) d × Torn 32 32 d c) }
     {
         let closing = Closing {
             size: 0,
@@ -193,6 +198,7 @@ impl<D: Disk> GroupLog<D> {
         ensures cause { HasCause (D.fault_count (log_disk self.old)) (D.fault_count (log_disk self.new)) result }
         ensures crash { Follows (Torn 32 32) (D.may_leave (log_disk self.old)) (D.may_leave (log_disk self.new)) }
         ensures durable { OnOk result (IfSome (D.image (log_disk self.new)) (λ f. Only f (D.may_leave (log_disk self.new)))) }
+        ensures time { LeavesOnly D.moment D.left_since (log_disk self.old) (log_disk self.new) (λ c. (d : List ℕ) × D.may_leave (log_disk self.old) d × Torn 32 32 d c) }
     {
         self.sync_log(true)?;
         let size = self.end;
@@ -213,8 +219,27 @@ impl<D: Disk> GroupLog<D> {
         ensures taken { D.taken_count (log_disk self.new) ≡ D.taken_count (log_disk self.old) }
         ensures cause { HasCause (D.fault_count (log_disk self.old)) (D.fault_count (log_disk self.new)) result }
         ensures crash { Follows (Torn (64 + 8 * bucket) 8) (D.may_leave (log_disk self.old)) (D.may_leave (log_disk self.new)) }
+        ensures time { LeavesOnly D.moment D.left_since (log_disk self.old) (log_disk self.new) (λ c. (d : List ℕ) × D.may_leave (log_disk self.old) d × Torn (64 + 8 * bucket) 8 d c) }
     {
         self.disk.write_at(64 + 8 * bucket, &place.to_be_bytes())
+    }
+
+    /// Writes the cells of heads from a bucket's on.
+    pub fn set_cells(&mut self, bucket: u64, text: &[u8]) -> Result<(), DiskError>
+        requires p { (log_head self.old).p ≤ 24 }
+        requires text { 64 + 8 * bucket + length text.now ≤ base_of (log_head self.old).p }
+        requires there { IfSome (D.image (log_disk self.old)) (λ f. base_of (log_head self.old).p ≤ length f) }
+        ensures written { OnOk result (D.image (log_disk self.new) ≡ option_map (put_at (64 + 8 * bucket) text.now) (D.image (log_disk self.old))) }
+        ensures stands { (groups : List Group) → Stands D.image self.old groups → OnOk result (Stands D.image self.new groups) }
+        ensures head { log_head self.new ≡ log_head self.old }
+        ensures end { log_end self.new ≡ log_end self.old }
+        ensures told { is_some (D.image (log_disk self.new)) ≡ is_some (D.image (log_disk self.old)) }
+        ensures taken { D.taken_count (log_disk self.new) ≡ D.taken_count (log_disk self.old) }
+        ensures cause { HasCause (D.fault_count (log_disk self.old)) (D.fault_count (log_disk self.new)) result }
+        ensures crash { Follows (Torn (64 + 8 * bucket) (length text.now)) (D.may_leave (log_disk self.old)) (D.may_leave (log_disk self.new)) }
+        ensures time { LeavesOnly D.moment D.left_since (log_disk self.old) (log_disk self.new) (λ c. (d : List ℕ) × D.may_leave (log_disk self.old) d × Torn (64 + 8 * bucket) (length text.now) d c) }
+    {
+        self.disk.write_at(64 + 8 * bucket, text)
     }
 
     /// Writes the newest block's place of each bucket.

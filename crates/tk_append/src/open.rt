@@ -1,9 +1,9 @@
-ghost use Rattle.std.specs.Prelude.{◌≡◌, ◌≢◌, ◌≤◌, ◌<◌, ◌==◌, ◌∷◌, [], true, false, List, Some, IfOk, IfErr, IfSome, OnOk};
+ghost use Rattle.std.specs.Prelude.{◌≡◌, ◌≢◌, ◌≤◌, ◌<◌, ◌==◌, ◌∷◌, [], ℕ, true, false, List, Some, IfOk, IfErr, IfSome, OnOk};
 ghost use Rattle.std.specs.List.{list_any};
 ghost use Rattle.std.specs.Option.{is_some, option_map};
 ghost use Rattle.tk_model.specs.declared.record.Group.{Group};
 ghost use Rattle.tk_model.specs.declared.error.OpenError.TheVariants as OpenError;
-ghost use Rattle.tk_disk.specs.Crash.{Torn, Follows, Within, Only};
+ghost use Rattle.tk_disk.specs.Crash.{Torn, Follows, Within, Only, LeavesOnly};
 ghost use Rattle.tk_disk.specs.Disk.{Rose, HasCause};
 ghost use Rattle.tk_block.specs.Text.{static_at};
 ghost use Rattle.tk_append.specs.Opening.{first_fault};
@@ -62,6 +62,8 @@ pub fn open_log<D: Disk>(
     ensures counted { IfOk result (λ log. D.fault_count (log_disk log) ≡ D.fault_count disk) }
     ensures later { IfErr result (λ u. D.fault_count disk ≤ D.fault_count u.disk) }
     ensures cause { IfErr result (λ u. u.cause ≡ OpenError.Fault → Rose (D.fault_count disk) (D.fault_count u.disk)) }
+    ensures time { IfOk result (λ log. LeavesOnly D.moment D.left_since disk (log_disk log) (λ c. (d : List ℕ) × D.may_leave disk d × Torn 32 32 d c)) }
+    ensures back_time { IfErr result (λ u. LeavesOnly D.moment D.left_since disk u.disk (λ c. (d : List ℕ) × D.may_leave disk d × Torn 32 32 d c)) }
 {
     let read = match read_log(alloc, disk, &[1, 3], writable, shard) {
         Ok(read) => read,

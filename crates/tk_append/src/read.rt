@@ -8,6 +8,7 @@ ghost use Rattle.tk_append.specs.Log.{Tells};
 ghost use Rattle.tk_append.specs.LogParts.{log_disk, log_head};
 ghost use Rattle.tk_append.specs.Checked.{Finds, IsClosed};
 ghost use Rattle.tk_append.specs.Read.{IsOutside, HasOpenCause, HasRead, IsClosedOn, OnlyReads, TellsResult};
+ghost use Rattle.tk_append.specs.Counted.{HasCounted};
 
 use crate::check::{Found, check_bytes};
 use crate::hashed::HashedRecords;
@@ -22,6 +23,14 @@ pub struct ReadLog<D: Disk> {
     pub log: GroupLog<D>,
     pub records: HashedRecords,
     pub heads: Vec<u64>,
+    pub next: u64,
+}
+
+/// The log of a file that was read, with the number of its records and its next number.
+#[derive(Drop)]
+pub struct CountedLog<D: Disk> {
+    pub log: GroupLog<D>,
+    pub count: u64,
     pub next: u64,
 }
 
@@ -131,4 +140,39 @@ pub fn read_log<D: Disk>(
         }),
         Err(cause) => Err(Unopened { cause, disk }),
     }
+}
+
+/// Reads and checks a whole file, and counts its records. The disk is handed back where it is refused.
+#[tactic(auto, using(crate::proofs::Countings::counted_of))]
+pub fn read_counted<D: Disk>(
+    alloc: Global,
+    disk: D,
+    kinds: &[u8],
+    writable: bool,
+    shard: ShardOf,
+) -> Result<CountedLog<D>, Unopened<D>>
+    requires shard { shard.index < shard.of }
+    ensures exact { IfSome (D.image disk) (λ f. Tells result (first_fault kinds.now writable shard f)) }
+    ensures found { IfOk result (HasCounted D.image disk shard) }
+    ensures kind { IfOk result (λ r. list_any (λ k. k == (log_head r.log).kind) kinds.now ≡ true) }
+    ensures last { IfOk result (λ r. writable ≡ true → r.next ≤ 2 ^ 62) }
+    ensures image { IfOk result (λ r. D.image (log_disk r.log) ≡ D.image disk) }
+    ensures back { IfErr result (λ u. D.image u.disk ≡ D.image disk) }
+    ensures still { IfOk result (λ r. OnlyReads D.may_leave D.moment D.left_since disk (log_disk r.log)) }
+    ensures back_still { IfErr result (λ u. OnlyReads D.may_leave D.moment D.left_since disk u.disk) }
+    ensures counted { IfOk result (λ r. D.fault_count (log_disk r.log) ≡ D.fault_count disk) }
+    ensures later { IfErr result (λ u. D.fault_count disk ≤ D.fault_count u.disk) }
+    ensures cause { IfErr result (λ u. u.cause ≡ OpenError.Fault → Rose (D.fault_count disk) (D.fault_count u.disk)) }
+{
+    let ReadLog {
+        log,
+        records,
+        heads: _,
+        next,
+    } = read_log(alloc, disk, kinds, writable, shard)?;
+    Ok(CountedLog {
+        log,
+        count: records.len() as u64,
+        next,
+    })
 }

@@ -1,0 +1,4 @@
+pub mod Chain
+pub mod Hash
+pub mod Plan
+pub mod Seek

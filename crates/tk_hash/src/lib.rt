@@ -1,0 +1,10 @@
+//! Hash files as stores.
+#![tactic(auto)]
+
+mod open;
+mod plan;
+mod seek;
+mod shelf;
+mod store;
+
+pub use store::HashStore;

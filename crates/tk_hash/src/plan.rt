@@ -1,0 +1,104 @@
+//! What a group needs beside its changes: the links of its blocks, the new heads, and the count of records behind it.
+ghost use Rattle.std.specs.Prelude.{◌≡◌, ◌+◌, ◌*◌, ◌≤◌, ◌^◌, ◌++◌, ℕ, List, [], length, IfOk, IfSome, OnOk, Some};
+ghost use Rattle.std.specs.Option.{is_some};
+ghost use Rattle.tk_disk.specs.Crash.{Torn, Follows, LeavesOnly};
+ghost use Rattle.tk_disk.specs.Disk.{HasCause as HasDiskCause};
+ghost use Rattle.tk_model.specs.Records.{after, replay, AllFit, IsClearAlone};
+ghost use Rattle.tk_model.specs.declared.record.Order.TheVariants.{Hash};
+ghost use Rattle.tk_model.specs.declared.record.Group.{Group};
+ghost use Rattle.tk_store.specs.Store.{HasCause, NeverFull};
+ghost use Rattle.tk_block.specs.Text.{base_of};
+ghost use Rattle.tk_block.specs.Blocks.{group_bodies};
+ghost use Rattle.tk_block.specs.Layout.{laid, links_of, end_of};
+ghost use Rattle.tk_block.specs.declared.closing.Closing.{Closing};
+ghost use Rattle.tk_append.specs.Chains.{HeadsAre};
+ghost use Rattle.tk_append.specs.Log.{blocks_of};
+ghost use Rattle.tk_append.specs.LogParts.{log_disk, log_head, log_end};
+ghost use Rattle.tk_append.specs.FileText.{text_with, IsFile};
+ghost use Rattle.tk_append.specs.Read.{OnlyReads};
+ghost use Rattle.tk_hash.specs.Plan.{with_heads, FitHeads};
+
+use std::alloc::Global;
+use tk_append::GroupLog;
+use tk_block::{LinkList, StaticHead};
+use tk_disk::{Disk, DiskError};
+use tk_model::ChangeList;
+use tk_store::StoreError;
+
+/// A bucket's newest block.
+#[derive(Clone, Copy, Debug, PartialEq, Eq)]
+pub(crate) struct NewHead {
+    pub bucket: u64,
+    pub place: u64,
+}
+
+/// The heads that a group changes.
+#[derive(Drop)]
+pub(crate) enum NewHeads {
+    /// All buckets are empty.
+    Cleared,
+    /// Each bucket that has a block in the group, with its newest.
+    Renewed(Vec<NewHead>),
+}
+
+/// Where the blocks of a group go in the chains, and the number of records behind it.
+#[derive(Drop)]
+pub(crate) struct Plan {
+    pub links: LinkList,
+    pub heads: NewHeads,
+    pub count: u64,
+}
+
+/// Plans a group that goes to the end of a file of so many records. The buffer holds a key while it is compared.
+pub(crate) fn plan_changes<D: Disk>(
+    alloc: Global,
+    disk: &mut D,
+    head: &StaticHead,
+    end: u64,
+    count: u64,
+    buffer: &mut [u8],
+    changes: &ChangeList,
+) -> Result<Plan, StoreError>
+    requires p { head.now.p ≤ 24 }
+    requires buffer { 65536 ≤ length buffer.old }
+    requires fit { AllFit changes.now }
+    requires alone { IsClearAlone changes.now }
+    requires end { end_of end (group_bodies 0 changes.now) ≤ 2 ^ 40 }
+    ensures links { (number : ℕ) (groups : List Group) → IfSome (D.image disk.old) (λ f. IsFile head.now f groups
+        → IfOk result (λ plan. plan.links ≡ links_of head.now.p (blocks_of head.now groups) (laid end (group_bodies number changes.now)))) }
+    ensures heads { (number : ℕ) (groups : List Group) (heads : List ℕ) → IfSome (D.image disk.old) (λ f. IsFile head.now f groups → HeadsAre head.now.p heads (blocks_of head.now groups)
+        → IfOk result (λ plan. HeadsAre head.now.p (with_heads plan.heads heads) (blocks_of head.now groups ++ laid end (group_bodies number changes.now)))) }
+    ensures fit { IfOk result (λ plan. FitHeads head.now.p plan.heads) }
+    ensures count { (groups : List Group) → IfSome (D.image disk.old) (λ f. IsFile head.now f groups → count ≡ length (replay Hash groups [])
+        → IfOk result (λ plan. plan.count ≡ length (after Hash changes.now (replay Hash groups [])))) }
+    ensures counts { IfOk result (λ plan. length plan.links ≡ length changes.now) }
+    ensures buffer { length buffer.new ≡ length buffer.old }
+    ensures image { D.image disk.new ≡ D.image disk.old }
+    ensures still { OnlyReads D.may_leave D.moment D.left_since disk.old disk.new }
+    ensures taken { D.taken_count disk.old ≤ D.taken_count disk.new }
+    ensures cause { HasCause (D.fault_count disk.old) (D.fault_count disk.new) result }
+    ensures never { NeverFull result }
+{
+    Err(StoreError::NoMemory)
+}
+
+/// Writes the new heads.
+pub(crate) fn put_heads<D: Disk>(log: &mut GroupLog<D>, heads: &NewHeads) -> Result<(), DiskError>
+    requires p { (log_head log.old).p ≤ 24 }
+    requires fit { FitHeads (log_head log.old).p heads.now }
+    requires there { IfSome (D.image (log_disk log.old)) (λ f. base_of (log_head log.old).p ≤ length f) }
+    ensures written { (c : Closing) (old : List ℕ) (groups : List Group) → IfSome (D.image (log_disk log.old)) (λ f. f ≡ text_with (log_head log.old) c old groups → length old ≡ 2 ^ (log_head log.old).p
+        → OnOk result (D.image (log_disk log.new) ≡ Some (text_with (log_head log.old) c (with_heads heads.now old) groups))) }
+    ensures head { log_head log.new ≡ log_head log.old }
+    ensures end { log_end log.new ≡ log_end log.old }
+    ensures told { is_some (D.image (log_disk log.new)) ≡ is_some (D.image (log_disk log.old)) }
+    ensures taken { D.taken_count (log_disk log.new) ≡ D.taken_count (log_disk log.old) }
+    ensures cause { HasDiskCause (D.fault_count (log_disk log.old)) (D.fault_count (log_disk log.new)) result }
+    ensures crash { Follows (Torn 64 (8 * 2 ^ (log_head log.old).p)) (D.may_leave (log_disk log.old)) (D.may_leave (log_disk log.new)) }
+    ensures time { LeavesOnly D.moment D.left_since (log_disk log.old) (log_disk log.new) (λ c. (d : List ℕ) × D.may_leave (log_disk log.old) d × Torn 64 (8 * 2 ^ (log_head log.old).p) d c) }
+{
+    match heads {
+        NewHeads::Cleared => log.set_cells(0, &[]),
+        NewHeads::Renewed(_) => log.set_cells(0, &[]),
+    }
+}

@@ -1,0 +1,281 @@
+ghost use Rattle.std.specs.Prelude.{◌≡◌, ◌≢◌, ◌≤◌, ◌<◌, ◌+◌, ◌-◌, ◌^◌, ◌++◌, ◌∷◌, ◌==◌, ◌&&◌, not, nat_lt, ℕ, List, [], length, take, Option, IfOk, IfSome, OnOk, OnErr, Some, Ok, Err, true, false, if◌then◌else◌, sum_by};
+ghost use Rattle.std.specs.Option.{is_some};
+ghost use Rattle.tk_model.specs.Records.{AllFit};
+ghost use Rattle.tk_model.specs.declared.record.Group.{Group};
+ghost use Rattle.tk_store.specs.Store.{First, made, extent_of as change_extent, HasCause, NeverFull, OkOrFault, IsWhole, LeavesSafe};
+ghost use Rattle.tk_append.specs.Log.{closed_text};
+
+use crate::plan::{NewHeads, plan_changes, put_heads};
+use crate::seek::{get_value, get_value_into};
+use crate::shelf::{Shelf, first_record, last_record};
+use std::alloc::Global;
+use tk_append::{GroupLog, extent_of_change};
+use tk_block::Closing;
+use tk_disk::{Disk, DiskError};
+use tk_model::{Bound, Bytes, Change, ChangeList, NoMemory, Order, Pair};
+use tk_store::{SeqStore, StoreError};
+
+/// The longest file.
+const LIMIT: u64 = 1 << 40;
+
+/// What stands in memory of the file after the group that is prepared.
+#[derive(Drop)]
+pub(crate) struct Staged {
+    pub(crate) heads: NewHeads,
+    pub(crate) count: u64,
+}
+
+/// A store over a hash file of kind 1. Records stay in the file: a look-up reads the chain of its bucket.
+pub struct HashStore<D: Disk> {
+    pub(crate) alloc: Global,
+    pub(crate) log: GroupLog<D>,
+    /// What stands in the file.
+    pub(crate) closing: Closing,
+    pub(crate) count: u64,
+    pub(crate) next: u64,
+    pub(crate) last: Option<u64>,
+    pub(crate) writable: bool,
+    pub(crate) closed: bool,
+    pub(crate) limit: u64,
+    /// Room for a key, so that look-ups take no memory.
+    pub(crate) buffer: Vec<u8>,
+    pub(crate) shelf: Option<Shelf>,
+    pub(crate) staged: Option<Staged>,
+}
+
+/// The bytes that the blocks of changes take. What passes 64 bits is no sum of changes that are in memory.
+fn need_of(changes: &[Change]) -> Result<u64, NoMemory>
+    requires { AllFit changes.now }
+    ensures { IfOk result (λ n. n ≡ sum_by (change_extent 1) changes.now) }
+{
+    let mut need: u64 = 0;
+    for change in changes {
+        let Some(more) = need.checked_add(extent_of_change(change)) else {
+            return Err(NoMemory);
+        };
+        need = more;
+    }
+    Ok(need)
+}
+
+/// The group would pass the limit.
+fn is_over(size: u64, need: u64, limit: u64, empty: bool) -> bool
+    ensures { result ≡ (nat_lt limit (size + need) && not (empty && (need == 0))) }
+{
+    if empty && need == 0 {
+        return false;
+    }
+    limit < size || limit - size < need
+}
+
+/// A disk's answer as a store's: its only error is a fault.
+fn told<T>(answer: Result<T, DiskError>) -> Result<T, StoreError>
+    ensures ok { IfOk answer (λ v. result ≡ Ok v) }
+    ensures err { OnErr answer (result ≡ Err StoreError.Fault) }
+{
+    match answer {
+        Ok(value) => Ok(value),
+        Err(_) => Err(StoreError::Fault),
+    }
+}
+
+impl<D: Disk> HashStore<D> {
+    /// Makes a group of these changes ready.
+    fn stage(&mut self, changes: &ChangeList) -> Result<Staged, StoreError> {
+        let head = *self.log.head();
+        let end = self.log.end();
+        let plan = plan_changes(
+            self.alloc,
+            self.log.disk(),
+            &head,
+            end,
+            self.count,
+            &mut self.buffer,
+            changes,
+        )?;
+        self.log.prepare(changes, &plan.links)?;
+        Ok(Staged {
+            heads: plan.heads,
+            count: plan.count,
+        })
+    }
+
+    /// Writes the group that was staged, under this number, and then the heads.
+    fn put_staged(&mut self, number: u64, staged: Staged) -> Result<(), StoreError> {
+        self.shelf = None;
+        told(self.log.append(number))?;
+        told(put_heads(&mut self.log, &staged.heads))?;
+        self.count = staged.count;
+        self.last = Some(number);
+        Ok(())
+    }
+
+    /// Makes it durable that the file is closed, with this next number.
+    fn end_file(&mut self, next: u64) -> Result<(), StoreError> {
+        told(self.log.close_log(self.count, next))?;
+        self.closing = Closing {
+            size: self.log.end(),
+            count: self.count,
+            next,
+        };
+        Ok(())
+    }
+
+    /// Gives the disk back.
+    pub fn into_disk(self) -> D
+        ensures { result ≡ hash_disk self }
+    {
+        let HashStore {
+            log,
+            alloc: _,
+            closing: _,
+            count: _,
+            next: _,
+            last: _,
+            writable: _,
+            closed: _,
+            limit: _,
+            buffer: _,
+            shelf: _,
+            staged: _,
+        } = self;
+        log.into_disk()
+    }
+}
+
+impl<D: Disk> SeqStore for HashStore<D> {
+    ghost use Rattle.std.specs.Prelude.{true, Bool};
+    ghost use Rattle.tk_hash.specs.Hash.{hash_disk, hash_head, hash_nature, hash_shown, HashStands, HashPrepared, HashSafe, HashStood, opening};
+
+    ghost nature = { hash_nature };
+
+    ghost shown = { hash_shown D.image };
+
+    ghost stands = { HashStands D.image D.may_leave };
+
+    ghost prepared = { HashPrepared D.image };
+
+    ghost moment = { λ s. D.moment (hash_disk s) };
+
+    ghost safe = { HashSafe D.image D.left_since };
+
+    ghost stood = { HashStood D.image D.may_leave D.moment D.left_since };
+
+    ghost lawful = { λ m. true };
+
+    ghost fault_count = { λ s. D.fault_count (hash_disk s) };
+
+    ghost taken_count = { λ s. D.taken_count (hash_disk s) };
+
+    fn faults(&self) -> u64 {
+        self.log.faults()
+    }
+
+    fn taken(&self) -> u64 {
+        self.log.taken()
+    }
+
+    fn size(&self) -> u64 {
+        self.log.end()
+    }
+
+    fn limit(&self) -> u64 {
+        self.limit.min(LIMIT)
+    }
+
+    fn order(&self) -> Order {
+        Order::Hash
+    }
+
+    fn next_number(&self) -> u64 {
+        self.next
+    }
+
+    fn count(&self) -> u64 {
+        self.count
+    }
+
+    fn get(&mut self, key: &[u8], out: &mut Bytes) -> Result<bool, StoreError> {
+        let head = *self.log.head();
+        get_value(self.log.disk(), &head, &mut self.buffer, key, out)
+    }
+
+    fn get_into(&mut self, key: &[u8], into: &mut [u8]) -> Result<Option<u32>, StoreError> {
+        let head = *self.log.head();
+        get_value_into(self.log.disk(), &head, &mut self.buffer, key, into)
+    }
+
+    fn next(&mut self, bound: &Bound) -> Result<Option<Pair>, StoreError> {
+        let head = *self.log.head();
+        first_record(self.alloc, self.log.disk(), &head, &mut self.shelf, bound)
+    }
+
+    fn prev(&mut self, bound: &Bound) -> Result<Option<Pair>, StoreError> {
+        let head = *self.log.head();
+        last_record(self.alloc, self.log.disk(), &head, &mut self.shelf, bound)
+    }
+
+    fn check_group(&mut self, changes: &ChangeList) -> Result<u64, StoreError> {
+        Ok(need_of(changes.as_slice())?)
+    }
+
+    fn reserve_group(&mut self, changes: &ChangeList) -> Result<(), StoreError> {
+        self.staged = None;
+        let empty = changes.is_empty();
+        let size = self.log.end();
+        let need = need_of(changes.as_slice())?;
+        let limit = self.limit.min(LIMIT);
+        if is_over(size, need, limit, empty) {
+            return Err(StoreError::Full { size, need, limit });
+        }
+        if !empty {
+            self.staged = Some(self.stage(changes)?);
+        }
+        Ok(())
+    }
+
+    fn apply_reserved(&mut self, number: u64) -> Result<(), StoreError> {
+        match self.staged.take() {
+            Some(staged) => self.put_staged(number, staged),
+            None => Ok(()),
+        }
+    }
+
+    fn sync(&mut self, hard: bool) -> Result<(), StoreError> {
+        if self.writable {
+            told(self.log.sync_log(hard))?;
+        }
+        Ok(())
+    }
+
+    fn close(&mut self, next: u64) -> Result<(), StoreError>
+        requires whole { IsWhole (HashStands D.image D.may_leave) self.old }
+        requires open { (hash_shown D.image self.old).closed ≡ false }
+        requires number { (hash_nature self.old).writable ≡ true → (hash_shown D.image self.old).floor ≤ next }
+        requires below { (hash_nature self.old).writable ≡ true → next < 2 ^ 64 - 1 }
+        ensures stands { (first : First) (since : List Group) (hard : ℕ) → HashStands D.image D.may_leave self.old first since hard
+            → OnOk result (HashStands D.image D.may_leave self.new first (since ++ made (hash_nature self.old) next []) (length (since ++ made (hash_nature self.old) next []))) }
+        ensures map { OnOk result ((hash_shown D.image self.new).map ≡ (hash_shown D.image self.old).map) }
+        ensures since { (t n : ℕ) (first : First) (since : List Group) (hard : ℕ) → HashStood D.image D.may_leave D.moment D.left_since self.old t n first since hard
+            → OnOk result (HashStood D.image D.may_leave D.moment D.left_since self.new t n first (since ++ made (hash_nature self.old) next []) (length (since ++ made (hash_nature self.old) next []))) }
+        ensures safe { LeavesSafe (HashStood D.image D.may_leave D.moment D.left_since) (HashSafe D.image D.left_since) (made (hash_nature self.old) next []) self.old self.new }
+        ensures nature { hash_nature self.new ≡ hash_nature self.old }
+        ensures closed { (hash_shown D.image self.new).closed ≡ true }
+        ensures time { D.moment (hash_disk self.old) ≤ D.moment (hash_disk self.new) }
+        ensures taken { D.taken_count (hash_disk self.old) ≤ D.taken_count (hash_disk self.new) }
+        ensures cause { HasCause (D.fault_count (hash_disk self.old)) (D.fault_count (hash_disk self.new)) result }
+        ensures never { NeverFull result }
+        ensures answers { OkOrFault result }
+        ensures file { (groups since : List Group) (hard : ℕ) → HashStands D.image D.may_leave self.old (opening groups) since hard
+            → OnOk result (IfSome (D.image (hash_disk self.old)) (λ _. D.image (hash_disk self.new)
+            ≡ Some (if (hash_nature self.old).writable then closed_text (hash_head self.old) (groups ++ since) next else closed_text (hash_head self.old) groups (hash_nature self.old).next))) }
+        ensures told { is_some (D.image (hash_disk self.new)) ≡ is_some (D.image (hash_disk self.old)) }
+    {
+        self.closed = true;
+        self.staged = None;
+        if self.writable {
+            self.end_file(next)?;
+        }
+        Ok(())
+    }
+}
