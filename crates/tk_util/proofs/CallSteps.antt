@@ -1,7 +1,7 @@
 -- One call on a file: the file that it leaves, and the room for it.
 use Rattle.std.proofs.Common.{◌≡◌, ℕ, ◌+◌, ◌-◌, ◌≤◌, ◌^◌, Bool, true, false, inl, inr, List, [], ◌∷◌, ◌++◌, length, refl, sym, ◌∙◌, ap, subst, arith, if◌then◌else◌}
 use Rattle.std.specs.Prelude.{Option, Some, None, IfSome, slice_index, sum_by, nat_lt, Result, Ok, Err, IfOk, IsErrOf, min}
-use Rattle.std.specs.Option.{is_some}
+use Rattle.std.specs.Option.{is_some, option_map}
 use Rattle.std.proofs.Math.Bool.{and-false}
 use Rattle.std.proofs.lemmas.List.{append-nil}
 use Rattle.tk_status.specs.declared.Status.{Status}
@@ -11,24 +11,24 @@ use Rattle.tk_model.specs.declared.record.Group.{Group}
 use Rattle.tk_model.specs.declared.record.Change.{Change}
 use Rattle.tk_model.specs.declared.record.Order.TheVariants.{Hash}
 use Rattle.tk_model.specs.Records.{find, replay}
-use Rattle.tk_model.specs.Entries.{group_of}
-use Rattle.tk_proc.specs.Runs.{short_status}
+use Rattle.tk_model.specs.Entries.{group_of, touched}
+use Rattle.tk_proc.specs.Runs.{short, short_status}
 use Rattle.tk_block.specs.declared.head.StaticHead.{StaticHead}
 use Rattle.tk_block.specs.Text.{static_text, static_front, closing_text, base_of}
 use Rattle.tk_block.specs.Layout.{laid, links_of, end_of, texts, bodies_of, heads_text, file_text}
 use Rattle.tk_block.proofs.Lengths.{length-file_text}
-use Rattle.tk_store.specs.Store.{Held, Groups, Blocks, Pages, Records, Nature, OkOrFault, UnlessFault, is_over, extent_of}
+use Rattle.tk_store.specs.Store.{First, Nature, OkOrFault, UnlessFault, is_over, extent_of}
 use Rattle.tk_store.specs.OneRecord.{call_changes, TellsFullOfChanges}
 use Rattle.tk_store.specs.declared.error.StoreError.{StoreError}
 use Rattle.tk_store.specs.declared.error.StoreError.TheVariants as errors
 use Rattle.tk_append.specs.Log.{closed_text}
 use Rattle.tk_append.specs.LogParts.{log_end}
 use Rattle.tk_append.specs.Opening.{first_fault}
-use Rattle.tk_util.specs.declared.plain.PlainStore.{PlainStore}
+use Rattle.tk_hash.specs.declared.store.HashStore.{HashStore}
 use Rattle.tk_util.specs.declared.call.Stop.{Stop}
 use Rattle.tk_util.specs.declared.call.Stop.TheVariants.{Full}
-use Rattle.tk_util.specs.Plain.{alone, PlainStands, opening, told_moment, plain_disk, plain_head, plain_nature, plain_shown}
-use Rattle.tk_util.specs.Calls.{Made, MadeOn, NoRoom, NoRoomOn, passes}
+use Rattle.tk_hash.specs.Hash.{HashStands, opening, groups_held, map_in, hash_disk, hash_head, hash_nature, hash_shown}
+use Rattle.tk_util.specs.Calls.{alone, Made, MadeOn, NoRoom, NoRoomOn, passes}
 
 -- the file of a header by its text and its p
 abbrev file_by : (text : List ℕ) (p : ℕ) → List Group → (count next : ℕ) → List ℕ
@@ -69,84 +69,111 @@ file_kept true g h groups n next closes b c d =
     ap (λ (l : List Group). closed_text g l closes) (append-nil groups) ∙ (ap (λ (k : ℕ). closed_text g groups k) d ∙ same_closed g h groups next b)
 file_kept false g h groups n next closes b c d = ap (λ (k : ℕ). closed_text g groups k) c ∙ same_closed g h groups next b
 
--- what is known where a disk tells its bytes after a call is known where it told them before
-pub still_told : (a b : Option (List ℕ)) (A B : Type 0) → told_moment a ≤ told_moment b → (A → B) → IfSome b (λ f. A) → IfSome a (λ f. B)
-still_told None b A B le go x = tt
-still_told (Some f) (Some g) A B le go x = go x
-still_told (Some f) None A B le go x = absurd (omega (arith, le))
+-- the records of a store that was opened
+map_is : {D : Type 0} (image : D → Option (List ℕ)) (may_leave : D → List ℕ → Type 0) (s : HashStore D) (groups : List Group) → HashStands image may_leave s (opening groups) [] 0 → IfSome (image (hash_disk s)) (λ f. map_in image s ≡ Some (replay Hash groups []))
+map_is image may_leave s groups st = ?
+
+-- what is known of the records, where a disk tells them
+told_map : (o : Option (List ℕ)) (M : Option (List Pair)) (m : List Pair) (P : List Pair → Type 0) (R : Type 0) → IfSome o (λ f. M ≡ Some m) → IfSome M P → (P m → R) → IfSome o (λ f. R)
+told_map None M m P R is holds go = tt
+told_map (Some f) M m P R is holds go = go (subst (λ (x : Option (List Pair)). IfSome x P) is holds)
+
+both_told : (o : Option (List ℕ)) (A B R : Type 0) → IfSome o (λ f. A) → IfSome o (λ f. B) → (A → B → R) → IfSome o (λ f. R)
+both_told None A B R a b go = tt
+both_told (Some f) A B R a b go = go a b
+
+-- a disk whose records are told tells its bytes
+known_map : (G : List ℕ → List Pair) (b : Option (List ℕ)) (m : List Pair) (X : Type 0) → option_map G b ≡ Some m → IfSome b (λ f. X) → X
+known_map G (Some g) m X e x = x
+known_map G None m X e x = absurd (cc e)
+
+-- where the records are told as before the bytes are too
+still_told : (F G : List ℕ → List Pair) (a b : Option (List ℕ)) (A B : Type 0) → option_map G b ≡ option_map F a → (A → B) → IfSome b (λ f. A) → IfSome a (λ f. B)
+still_told F G None b A B same go x = tt
+still_told F G (Some f) (Some g) A B same go x = go x
+still_told F G (Some f) None A B same go x = absurd (cc same)
 
 -- there was room for what was made
-room_is : {D T : Type 0} (s : PlainStore D) (cs : List Change) (v : T) (size : ℕ) → size ≡ log_end s.log → TellsFullOfChanges {T = T} (plain_nature s) (plain_shown s) cs (Ok v)
-    → is_over size (sum_by (extent_of 1) cs) (2 ^ 40) cs ≡ false
-room_is s [] v size e told = and-false (nat_lt (2 ^ 40) (size + 0))
-room_is s (c ∷ cs) v size e told = ap (λ (n : ℕ). is_over n (sum_by (extent_of 1) (c ∷ cs)) (2 ^ 40) (c ∷ cs)) e ∙ told.store
+room_is : {D T : Type 0} (image : D → Option (List ℕ)) (s : HashStore D) (cs : List Change) (v : T) (size : ℕ) → size ≡ log_end s.log → (hash_nature s).limit ≡ 2 ^ 40
+    → TellsFullOfChanges {T = T} (hash_nature s) (hash_shown image s) cs (Ok v) → is_over size (sum_by (extent_of 1) cs) (2 ^ 40) cs ≡ false
+room_is image s [] v size e limit told = and-false (nat_lt (2 ^ 40) (size + 0))
+room_is image s (c ∷ cs) v size e limit told =
+    ap (λ (n : ℕ). is_over n (sum_by (extent_of 1) (c ∷ cs)) (2 ^ 40) (c ∷ cs)) e
+    ∙ (ap (λ (l : ℕ). is_over (log_end s.log) (sum_by (extent_of 1) (c ∷ cs)) l (c ∷ cs)) (sym limit) ∙ told.store)
 
 -- there was none where the store was full
-over_is : {D : Type 0} (T : Type 0) (s : PlainStore D) (cs : List Change) (a n l size : ℕ) → size ≡ log_end s.log → TellsFullOfChanges {T = T} (plain_nature s) (plain_shown s) cs (Err (errors.Full a n l))
-    → is_over size (sum_by (extent_of 1) cs) (2 ^ 40) cs ≡ true
-over_is T s [] a n l size e told = absurd told
-over_is T s (c ∷ cs) a n l size e (inl x) =
+over_is : {D : Type 0} (T : Type 0) (image : D → Option (List ℕ)) (s : HashStore D) (cs : List Change) (a n l size : ℕ) → size ≡ log_end s.log → (hash_nature s).limit ≡ 2 ^ 40
+    → TellsFullOfChanges {T = T} (hash_nature s) (hash_shown image s) cs (Err (errors.Full a n l)) → is_over size (sum_by (extent_of 1) cs) (2 ^ 40) cs ≡ true
+over_is T image s [] a n l size e limit told = absurd told
+over_is T image s (c ∷ cs) a n l size e limit (inl x) =
     ap (λ (k : ℕ). is_over k (sum_by (extent_of 1) (c ∷ cs)) (2 ^ 40) (c ∷ cs)) (e ∙ sym x.size_is)
-    ∙ (ap (λ (k : ℕ). is_over a k (2 ^ 40) (c ∷ cs)) (sym x.need_is) ∙ (ap (λ (k : ℕ). is_over a n k (c ∷ cs)) (sym x.limit_is) ∙ x.over))
-over_is T s (c ∷ cs) a n l size e (inr x) = absurd x
-
-abbrev groups_in : Held → List Group
-groups_in (Groups groups) = groups
-groups_in (Blocks blocks) = []
-groups_in (Pages pages) = []
-groups_in Records = []
+    ∙ (ap (λ (k : ℕ). is_over a k (2 ^ 40) (c ∷ cs)) (sym x.need_is) ∙ (ap (λ (k : ℕ). is_over a n k (c ∷ cs)) (sym (x.limit_is ∙ limit)) ∙ x.over))
+over_is T image s (c ∷ cs) a n l size e limit (inr x) = absurd x
 
 -- the file is as long as the store says
-size_is : {D : Type 0} (image : D → Option (List ℕ)) (s : PlainStore D) (groups : List Group) → PlainStands image s (opening groups) [] 0 → length (closed_text (plain_head s) groups s.next) ≡ log_end s.log
-size_is image s groups st =
-    length-file_text (plain_head s) groups (length (replay Hash groups [])) s.next
-    ∙ (ap (λ (l : List Group). end_of (base_of (plain_head s).p) (bodies_of l)) (ap groups_in st.held ∙ sym (append-nil st.groups)) ∙ sym st.end_is)
+size_is : {D : Type 0} (image : D → Option (List ℕ)) (may_leave : D → List ℕ → Type 0) (s : HashStore D) (groups : List Group) → HashStands image may_leave s (opening groups) [] 0 → length (closed_text (hash_head s) groups s.next) ≡ log_end s.log
+size_is image may_leave s groups st =
+    length-file_text (hash_head s) groups (length (replay Hash groups [])) s.next
+    ∙ (ap (λ (l : List Group). end_of (base_of (hash_head s).p) (bodies_of l)) (ap groups_held st.held ∙ sym (append-nil st.groups)) ∙ sym st.end_is)
 
 -- a call was not made, and the store then closed
-pub kept_on : {D : Type 0} (image : D → Option (List ℕ)) (s t u : PlainStore D) (groups : List Group) (number : ℕ) (R : Type 0) → plain_nature t ≡ plain_nature s → number ≡ s.next
-    → told_moment (image (plain_disk s)) ≤ told_moment (image (plain_disk t))
-    → IfSome (image (plain_disk t)) (λ f. image (plain_disk u) ≡ Some (if t.writable then closed_text (plain_head t) (groups ++ []) number else closed_text (plain_head t) groups t.next))
-    → (image (plain_disk u) ≡ Some (closed_text (plain_head s) groups s.next) → R)
-    → IfSome (image (plain_disk s)) (λ f. R)
-kept_on image s t u groups number R same numbered time file go =
-    still_told _ _ _ _ time (λ after. go (after ∙ ap Some (file_kept t.writable (plain_head t) (plain_head s) groups t.next s.next number
+pub kept_on : {D : Type 0} (image : D → Option (List ℕ)) (s t u : HashStore D) (groups : List Group) (number : ℕ) (R : Type 0) → hash_nature t ≡ hash_nature s → number ≡ s.next
+    → map_in image t ≡ map_in image s
+    → IfSome (image (hash_disk t)) (λ f. image (hash_disk u) ≡ Some (if t.writable then closed_text (hash_head t) (groups ++ []) number else closed_text (hash_head t) groups t.next))
+    → (image (hash_disk u) ≡ Some (closed_text (hash_head s) groups s.next) → R)
+    → IfSome (image (hash_disk s)) (λ f. R)
+kept_on image s t u groups number R same numbered told file go =
+    still_told _ _ _ _ _ _ told (λ after. go (after ∙ ap Some (file_kept t.writable (hash_head t) (hash_head s) groups t.next s.next number
     (ap (λ (n : Nature). n.header) same) (ap (λ (n : Nature). n.next) same) numbered))) file
 
+-- what a call that was made says of the records before it
+abbrev pub Told : {D P : Type 0} (image : D → Option (List ℕ)) (may_leave : D → List ℕ → Type 0) (acts : P → List ℕ → Option (List ℕ) → Action) (turns : P → List ℕ → Option (List ℕ) → P) (s t : HashStore D) (key : List ℕ) (p q : P) (number : ℕ) (status : Status) → List Pair → Type 0
+Told image may_leave acts turns s t key p q number status m =
+    ((status ≡ short_status (acts p key (find key m))) × (q ≡ turns p key (find key m)))
+    × (TellsFullOfChanges {T = Status} (hash_nature s) (hash_shown image s) (call_changes acts p key m) (Ok status)
+    × ((map_in image t ≡ Some (touched Hash key (short (acts p key (find key m))) m))
+    × ((first : First) (since : List Group) (hard : ℕ) → HashStands image may_leave s first since hard → HashStands image may_leave t first (since ++ group_of number (call_changes acts p key m)) hard)))
+
 -- a call was made, and the store then closed
-pub made_on : {D P : Type 0} (image : D → Option (List ℕ)) (acts : P → List ℕ → Option (List ℕ) → Action) (turns : P → List ℕ → Option (List ℕ) → P) (s t u : PlainStore D) (key : List ℕ) (p q : P) (groups : List Group) (number closes : ℕ) (status : Status)
-    → PlainStands image s (opening groups) [] 0 → status ≡ short_status (acts p key (find key s.records)) → q ≡ turns p key (find key s.records)
-    → TellsFullOfChanges {T = Status} (plain_nature s) (plain_shown s) (call_changes acts p key s.records) (Ok status)
-    → plain_nature t ≡ plain_nature s → number ≡ s.next → (s.writable ≡ true → closes ≡ s.next + 1)
-    → told_moment (image (plain_disk s)) ≤ told_moment (image (plain_disk t))
-    → IfSome (image (plain_disk t)) (λ f. image (plain_disk u) ≡ Some (if t.writable then closed_text (plain_head t) (groups ++ group_of number (call_changes acts p key s.records)) closes else closed_text (plain_head t) groups t.next))
-    → IfSome (image (plain_disk s)) (λ f. MadeOn acts turns (plain_head s) groups s.next s.writable key p q (image (plain_disk u)) status)
-made_on image acts turns s t u key p q groups number closes status st is turned full same numbered closed time file =
-    let e : s.records ≡ replay Hash groups [] = st.records_now in
-    still_told _ _ _ _ time (λ after. record {
-      status_is = is ∙ ap (λ (m : List Pair). short_status (acts p key (find key m))) e;
-      turned = turned ∙ ap (λ (m : List Pair). turns p key (find key m)) e;
-      room = subst (λ (m : List Pair). passes (closed_text (plain_head s) groups s.next) (call_changes acts p key m) ≡ false) e
-          (room_is s (call_changes acts p key s.records) status (length (closed_text (plain_head s) groups s.next)) (size_is image s groups st) full);
-      after_is = after ∙ ap Some (file_after t.writable s.writable (plain_head t) (plain_head s) groups
-          (group_of number (call_changes acts p key s.records)) (group_of s.next (call_changes acts p key (replay Hash groups []))) t.next s.next closes
+pub made_on : {D P : Type 0} (image : D → Option (List ℕ)) (may_leave : D → List ℕ → Type 0) (acts : P → List ℕ → Option (List ℕ) → Action) (turns : P → List ℕ → Option (List ℕ) → P) (s t u : HashStore D) (key : List ℕ) (p q : P) (groups : List Group) (number closes : ℕ) (status : Status)
+    → HashStands image may_leave s (opening groups) [] 0 → IfSome (map_in image s) (Told image may_leave acts turns s t key p q number status)
+    → hash_nature t ≡ hash_nature s → number ≡ s.next → (hash_nature s).limit ≡ 2 ^ 40 → (s.writable ≡ true → closes ≡ s.next + 1)
+    → ((since : List Group) → HashStands image may_leave t (opening groups) since 0 → IfSome (image (hash_disk t)) (λ f. image (hash_disk u) ≡ Some (if t.writable then closed_text (hash_head t) (groups ++ since) closes else closed_text (hash_head t) groups t.next)))
+    → IfSome (image (hash_disk s)) (λ f. MadeOn acts turns (hash_head s) groups s.next s.writable key p q (image (hash_disk u)) status)
+made_on image may_leave acts turns s t u key p q groups number closes status st said same numbered limit closed file =
+    let m : List Pair = replay Hash groups [] in
+    told_map (image (hash_disk s)) (map_in image s) m (Told image may_leave acts turns s t key p q number status) _ (map_is image may_leave s groups st) said (λ x.
+    let after = known_map _ _ _ _ x.3 (file _ (x.4 (opening groups) [] 0 st)) in
+    record {
+      status_is = x.0;
+      turned = x.1;
+      room = room_is image s (call_changes acts p key m) status (length (closed_text (hash_head s) groups s.next)) (size_is image may_leave s groups st) limit x.2;
+      after_is = after ∙ ap Some (file_after t.writable s.writable (hash_head t) (hash_head s) groups
+          (group_of number (call_changes acts p key m)) (group_of s.next (call_changes acts p key m)) t.next s.next closes
           (ap (λ (n : Nature). n.writable) same) (ap (λ (n : Nature). n.header) same) (ap (λ (n : Nature). n.next) same) closed
-          (ap (λ (n : ℕ). group_of n (call_changes acts p key s.records)) numbered ∙ ap (λ (m : List Pair). group_of s.next (call_changes acts p key m)) e));
-    }) file
+          (ap (λ (n : ℕ). group_of n (call_changes acts p key m)) numbered));
+    })
 
 -- there was no room for a call
-pub no_room_on : {D P : Type 0} (image : D → Option (List ℕ)) (acts : P → List ℕ → Option (List ℕ) → Action) (s u : PlainStore D) (key : List ℕ) (p : P) (groups : List Group) (e : StoreError) (a n l : ℕ) → e ≡ errors.Full a n l
-    → PlainStands image s (opening groups) [] 0
-    → TellsFullOfChanges {T = Status} (plain_nature s) (plain_shown s) (call_changes acts p key s.records) (Err e)
-    → image (plain_disk u) ≡ Some (closed_text (plain_head s) groups s.next)
-    → NoRoomOn acts (plain_head s) groups s.next key p (image (plain_disk u))
-no_room_on image acts s u key p groups e a n l is st full after =
-    let same : s.records ≡ replay Hash groups [] = st.records_now in
-    record {
-      full = subst (λ (m : List Pair). passes (closed_text (plain_head s) groups s.next) (call_changes acts p key m) ≡ true) same
-          (over_is Status s (call_changes acts p key s.records) a n l (length (closed_text (plain_head s) groups s.next)) (size_is image s groups st)
-          (subst (λ (y : StoreError). TellsFullOfChanges {T = Status} (plain_nature s) (plain_shown s) (call_changes acts p key s.records) (Err y)) is full));
-      after_is = after;
-    }
+pub no_room_on : {D P : Type 0} (image : D → Option (List ℕ)) (may_leave : D → List ℕ → Type 0) (acts : P → List ℕ → Option (List ℕ) → Action) (s u : HashStore D) (key : List ℕ) (p : P) (groups : List Group) (e : StoreError) (a n l : ℕ) → e ≡ errors.Full a n l
+    → HashStands image may_leave s (opening groups) [] 0 → (hash_nature s).limit ≡ 2 ^ 40
+    → IfSome (map_in image s) (λ m. TellsFullOfChanges {T = Status} (hash_nature s) (hash_shown image s) (call_changes acts p key m) (Err e))
+    → IfSome (image (hash_disk s)) (λ f. image (hash_disk u) ≡ Some (closed_text (hash_head s) groups s.next))
+    → IfSome (image (hash_disk s)) (λ f. NoRoomOn acts (hash_head s) groups s.next key p (image (hash_disk u)))
+no_room_on image may_leave acts s u key p groups e a n l is st limit full after =
+    let m : List Pair = replay Hash groups [] in
+    both_told (image (hash_disk s)) _ _ _ after
+    (told_map (image (hash_disk s)) (map_in image s) m (λ x. TellsFullOfChanges {T = Status} (hash_nature s) (hash_shown image s) (call_changes acts p key x) (Err e)) _ (map_is image may_leave s groups st) full (λ x. x))
+    (λ kept x. record {
+      full = over_is Status image s (call_changes acts p key m) a n l (length (closed_text (hash_head s) groups s.next)) (size_is image may_leave s groups st) limit
+          (subst (λ (y : StoreError). TellsFullOfChanges {T = Status} (hash_nature s) (hash_shown image s) (call_changes acts p key m) (Err y)) is x);
+      after_is = kept;
+    })
+
+-- what is said of the records, in one
+pub said_of : (M : Option (List Pair)) (P Q R S T : List Pair → Type 0) → IfSome M P → IfSome M Q → IfSome M R → IfSome M S → IfSome M T → IfSome M (λ m. (P m × Q m) × (R m × (S m × T m)))
+said_of None P Q R S T p q r s t = tt
+said_of (Some m) P Q R S T p q r s t = ((p, q), (r, (s, t)))
 
 -- what is no want of memory and not full is a fault
 pub fault_only : (T R : Type 0) (e : StoreError) → OkOrFault {T = T} (Err e) → (IsErrOf {T = T} (Err e) errors.Fault → R) → R
@@ -165,39 +192,33 @@ memory_tells T R e is x = subst (λ (y : StoreError). UnlessFault {T = T} (Err y
 pub one_more : (next number closes : ℕ) → number ≡ next → next ≤ 2 ^ 62 → closes ≡ min (number + 1) (2 ^ 64 - 1) → closes ≡ next + 1
 one_more next number closes is low e = omega (arith, is, low, e)
 
--- a disk that tells its bytes goes on to
-pub tells_on : (old new : Option (List ℕ)) → is_some new ≡ is_some old → told_moment old ≤ told_moment new
-tells_on None new same = omega arith
-tells_on (Some f) (Some g) same = omega arith
-tells_on (Some f) None same = absurd (cc same)
-
 known : (o : Option (List ℕ)) (R : Type 0) → is_some o ≡ true → IfSome o (λ f. R) → R
 known (Some f) R same x = x
 known None R same x = absurd (cc same)
 
 -- the groups of a store that was opened, with the file that it was opened on
-abbrev pub Opened : {D : Type 0} (image : D → Option (List ℕ)) → PlainStore D → Option (List ℕ) → Type 0
-Opened image s a = (groups : List Group) × PlainStands image s (opening groups) [] 0 × IfSome a (λ f. f ≡ closed_text (plain_head s) groups s.next)
+abbrev pub Opened : {D : Type 0} (image : D → Option (List ℕ)) (may_leave : D → List ℕ → Type 0) → HashStore D → Option (List ℕ) → Type 0
+Opened image may_leave s a = (groups : List Group) × HashStands image may_leave s (opening groups) [] 0 × IfSome a (λ f. f ≡ closed_text (hash_head s) groups s.next)
 
 -- a call on the file that was opened
-pub made_at : {D P : Type 0} (image : D → Option (List ℕ)) (acts : P → List ℕ → Option (List ℕ) → Action) (turns : P → List ℕ → Option (List ℕ) → P) (a : Option (List ℕ)) (s : PlainStore D) (u v : D) (w : Bool) (key : List ℕ) (p q : P) (answer : Result Status Stop)
-    → IfSome a (λ f. first_fault (1 ∷ []) w alone f ≡ None) → Opened image s a → s.writable ≡ w → is_some (image (plain_disk s)) ≡ is_some a → v ≡ u
-    → ((groups : List Group) → PlainStands image s (opening groups) [] 0 → IfSome (image (plain_disk s)) (λ f. IfOk answer (MadeOn acts turns (plain_head s) groups s.next s.writable key p q (image u))))
+pub made_at : {D P : Type 0} (image : D → Option (List ℕ)) (may_leave : D → List ℕ → Type 0) (acts : P → List ℕ → Option (List ℕ) → Action) (turns : P → List ℕ → Option (List ℕ) → P) (a : Option (List ℕ)) (s : HashStore D) (u v : D) (w : Bool) (key : List ℕ) (p q : P) (answer : Result Status Stop)
+    → IfSome a (λ f. first_fault (1 ∷ []) w alone f ≡ None) → Opened image may_leave s a → s.writable ≡ w → is_some (image (hash_disk s)) ≡ is_some a → v ≡ u
+    → ((groups : List Group) → HashStands image may_leave s (opening groups) [] 0 → IfSome (image (hash_disk s)) (λ f. IfOk answer (MadeOn acts turns (hash_head s) groups s.next s.writable key p q (image u))))
     → IfSome a (λ f. IfOk answer (Made acts turns w f key p q (image v)))
-made_at image acts turns None s u v w key p q answer accepted opened mode told same made = tt
-made_at image acts turns (Some f) s u v w key p q (Err stop) accepted opened mode told same made = tt
-made_at {D = D} image acts turns (Some f) s u v w key p q (Ok status) accepted opened mode told same made = record {
-  holds = record { accepted = accepted; head = plain_head s; groups = opened.0; next = s.next; file = opened.2 };
-  made = subst (λ (x : D). MadeOn acts turns (plain_head s) opened.0 s.next w key p q (image x) status) (sym same)
-      (subst (λ (b : Bool). MadeOn acts turns (plain_head s) opened.0 s.next b key p q (image u) status) mode (known (image (plain_disk s)) _ told (made opened.0 opened.1)));
+made_at image may_leave acts turns None s u v w key p q answer accepted opened mode told same made = tt
+made_at image may_leave acts turns (Some f) s u v w key p q (Err stop) accepted opened mode told same made = tt
+made_at {D = D} image may_leave acts turns (Some f) s u v w key p q (Ok status) accepted opened mode told same made = record {
+  holds = record { accepted = accepted; head = hash_head s; groups = opened.0; next = s.next; file = opened.2 };
+  made = subst (λ (x : D). MadeOn acts turns (hash_head s) opened.0 s.next w key p q (image x) status) (sym same)
+      (subst (λ (b : Bool). MadeOn acts turns (hash_head s) opened.0 s.next b key p q (image u) status) mode (known (image (hash_disk s)) _ told (made opened.0 opened.1)));
 }
 
-pub no_room_at : {D P : Type 0} (image : D → Option (List ℕ)) (acts : P → List ℕ → Option (List ℕ) → Action) (a : Option (List ℕ)) (s : PlainStore D) (u v : D) (w : Bool) (key : List ℕ) (p : P) (answer : Result Status Stop)
-    → IfSome a (λ f. first_fault (1 ∷ []) w alone f ≡ None) → Opened image s a → is_some (image (plain_disk s)) ≡ is_some a → v ≡ u
-    → ((groups : List Group) → PlainStands image s (opening groups) [] 0 → IfSome (image (plain_disk s)) (λ f. answer ≡ Err Full → NoRoomOn acts (plain_head s) groups s.next key p (image u)))
+pub no_room_at : {D P : Type 0} (image : D → Option (List ℕ)) (may_leave : D → List ℕ → Type 0) (acts : P → List ℕ → Option (List ℕ) → Action) (a : Option (List ℕ)) (s : HashStore D) (u v : D) (w : Bool) (key : List ℕ) (p : P) (answer : Result Status Stop)
+    → IfSome a (λ f. first_fault (1 ∷ []) w alone f ≡ None) → Opened image may_leave s a → is_some (image (hash_disk s)) ≡ is_some a → v ≡ u
+    → ((groups : List Group) → HashStands image may_leave s (opening groups) [] 0 → IfSome (image (hash_disk s)) (λ f. answer ≡ Err Full → NoRoomOn acts (hash_head s) groups s.next key p (image u)))
     → IfSome a (λ f. answer ≡ Err Full → NoRoom acts w f key p (image v))
-no_room_at image acts None s u v w key p answer accepted opened told same full = tt
-no_room_at {D = D} image acts (Some f) s u v w key p answer accepted opened told same full = λ is. record {
-  holds = record { accepted = accepted; head = plain_head s; groups = opened.0; next = s.next; file = opened.2 };
-  full = subst (λ (x : D). NoRoomOn acts (plain_head s) opened.0 s.next key p (image x)) (sym same) (known (image (plain_disk s)) _ told (full opened.0 opened.1) is);
+no_room_at image may_leave acts None s u v w key p answer accepted opened told same full = tt
+no_room_at {D = D} image may_leave acts (Some f) s u v w key p answer accepted opened told same full = λ is. record {
+  holds = record { accepted = accepted; head = hash_head s; groups = opened.0; next = s.next; file = opened.2 };
+  full = subst (λ (x : D). NoRoomOn acts (hash_head s) opened.0 s.next key p (image x)) (sym same) (known (image (hash_disk s)) _ told (full opened.0 opened.1) is);
 }

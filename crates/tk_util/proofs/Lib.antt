@@ -2,11 +2,7 @@ pub mod CallSteps
 pub mod Endings
 pub mod GetEndings
 pub mod Names
-pub mod PlainKeeps
-pub mod PlainLoops
-pub mod PlainSteps
 pub mod Printing
-pub mod PutGroup
 pub mod Ready
 pub mod Replies
 pub mod SameCommand

@@ -6,6 +6,7 @@ use Rattle.tk_model.specs.declared.record.Order.TheVariants.{Hash}
 use Rattle.tk_model.specs.declared.record.Group.{Group}
 use Rattle.tk_model.specs.declared.record.Action.{Action}
 use Rattle.tk_model.specs.declared.record.Change.{Change}
+use Rattle.tk_model.specs.declared.record.ShardOf.{ShardOf}
 use Rattle.tk_model.specs.declared.error.OpenError.{OpenError}
 use Rattle.tk_model.specs.declared.error.OpenError.TheVariants as errors
 use Rattle.tk_status.specs.declared.Status.{Status}
@@ -15,9 +16,12 @@ use Rattle.tk_store.specs.OneRecord.{call_changes}
 use Rattle.tk_block.specs.declared.head.StaticHead.{StaticHead}
 use Rattle.tk_append.specs.Log.{closed_text}
 use Rattle.tk_append.specs.Opening.{first_fault}
-use Rattle.tk_util.specs.Plain.{alone}
 use Rattle.tk_util.specs.declared.call.Stop.{Stop}
 use Rattle.tk_util.specs.declared.call.Stop.TheVariants.{Refused, Fault, NoMemory}
+
+-- a file that is no part of a set
+abbrev pub alone : ShardOf
+alone = record { index = 0; of = 1 }
 
 -- a file is a hash file that an opening accepts, and holds these groups
 pub record Holds (writable : Bool) (f : List ℕ) : Type 0 where

@@ -2,7 +2,6 @@ pub mod Asked
 pub mod Calls
 pub mod Done
 pub mod Ends
-pub mod Plain
 pub mod Ran
 pub mod Words
 pub mod World

@@ -8,15 +8,18 @@ ghost use Rattle.tk_append.specs.Log.{closed_text};
 ghost use Rattle.tk_store.specs.Store.{IsWhole};
 ghost use Rattle.tk_util.specs.declared.call.Stop.{Stop as Stopped};
 ghost use Rattle.tk_util.specs.Calls.{Made, NoRoom, RefusedAt, MadeOn, NoRoomOn, StopTells};
-ghost use Rattle.tk_util.specs.Plain.{PlainStands, plain_disk, plain_head, plain_nature, plain_shown, opening};
+ghost use Rattle.tk_hash.specs.Hash.{HashStands, hash_disk, hash_head, hash_nature, hash_shown, opening};
 
-use crate::plain::PlainStore;
 use std::alloc::Global;
 use tk_disk::Disk;
-use tk_model::OpenError;
+use tk_hash::HashStore;
+use tk_model::{OpenError, ShardOf};
 use tk_proc::RecordProcessor;
 use tk_status::Status;
 use tk_store::{SeqStore, StoreError, run_on};
+
+/// The longest file.
+const LIMIT: u64 = 1 << 40;
 
 /// Why a call was not made.
 #[derive(Clone, Copy, Debug, PartialEq, Eq)]
@@ -48,19 +51,19 @@ fn unopened(cause: OpenError) -> Stop
 }
 
 /// Closes the store behind its call.
-fn end_call<D: Disk>(store: &mut PlainStore<D>, next: u64) -> Result<(), Stop>
-    requires whole { IsWhole (PlainStands D.image) store.old }
-    requires open { (plain_shown store.old).closed ≡ false }
-    requires number { (plain_nature store.old).writable ≡ true → (plain_shown store.old).floor ≤ next }
-    requires below { (plain_nature store.old).writable ≡ true → next < 2 ^ 64 - 1 }
-    ensures file { (groups since : List Group) (hard : ℕ) → PlainStands D.image store.old (opening groups) since hard
-        → OnOk result (IfSome (D.image (plain_disk store.old)) (λ _. D.image (plain_disk store.new)
-        ≡ Some (if (plain_nature store.old).writable then closed_text (plain_head store.old) (groups ++ since) next else closed_text (plain_head store.old) groups (plain_nature store.old).next))) }
+fn end_call<D: Disk>(store: &mut HashStore<D>, next: u64) -> Result<(), Stop>
+    requires whole { IsWhole (HashStands D.image D.may_leave) store.old }
+    requires open { (hash_shown D.image store.old).closed ≡ false }
+    requires number { (hash_nature store.old).writable ≡ true → (hash_shown D.image store.old).floor ≤ next }
+    requires below { (hash_nature store.old).writable ≡ true → next < 2 ^ 64 - 1 }
+    ensures file { (groups since : List Group) (hard : ℕ) → HashStands D.image D.may_leave store.old (opening groups) since hard
+        → OnOk result (IfSome (D.image (hash_disk store.old)) (λ _. D.image (hash_disk store.new)
+        ≡ Some (if (hash_nature store.old).writable then closed_text (hash_head store.old) (groups ++ since) next else closed_text (hash_head store.old) groups (hash_nature store.old).next))) }
     ensures stops { (stop : Stopped) → result ≡ Err stop → stop ≡ Stop.Fault }
-    ensures kept { OnOk result (D.fault_count (plain_disk store.new) ≡ D.fault_count (plain_disk store.old)) }
-    ensures later { D.fault_count (plain_disk store.old) ≤ D.fault_count (plain_disk store.new) }
-    ensures fault { OnErr result (Rose (D.fault_count (plain_disk store.old)) (D.fault_count (plain_disk store.new))) }
-    ensures told { is_some (D.image (plain_disk store.new)) ≡ is_some (D.image (plain_disk store.old)) }
+    ensures kept { OnOk result (D.fault_count (hash_disk store.new) ≡ D.fault_count (hash_disk store.old)) }
+    ensures later { D.fault_count (hash_disk store.old) ≤ D.fault_count (hash_disk store.new) }
+    ensures fault { OnErr result (Rose (D.fault_count (hash_disk store.old)) (D.fault_count (hash_disk store.new))) }
+    ensures told { is_some (D.image (hash_disk store.new)) ≡ is_some (D.image (hash_disk store.old)) }
 {
     match store.close(next) {
         Ok(()) => Ok(()),
@@ -71,25 +74,26 @@ fn end_call<D: Disk>(store: &mut PlainStore<D>, next: u64) -> Result<(), Stop>
 /// Makes a call under the store's next number, and closes the store unless it failed.
 fn call_on<D: Disk, P: RecordProcessor>(
     alloc: Global,
-    store: &mut PlainStore<D>,
+    store: &mut HashStore<D>,
     key: &[u8],
     p: &mut P,
 ) -> Result<Status, Stop>
     requires key { length key.now ≤ 65535 }
-    requires begun { (groups : List Group) × PlainStands D.image store.old (opening groups) [] 0 }
-    requires open { (plain_shown store.old).closed ≡ false }
-    requires low { (plain_nature store.old).writable ≡ true → (plain_nature store.old).next ≤ 2 ^ 62 }
-    requires may { ((was : Option (List ℕ)) → P.acts p.old key.now was ≡ Keep) ⊎ ((plain_nature store.old).writable ≡ true) }
-    ensures made { (groups : List Group) → PlainStands D.image store.old (opening groups) [] 0 → IfSome (D.image (plain_disk store.old)) (λ _.
-        IfOk result (MadeOn P.acts P.turns (plain_head store.old) groups (plain_nature store.old).next (plain_nature store.old).writable key.now p.old p.new (D.image (plain_disk store.new)))) }
-    ensures no_room { (groups : List Group) → PlainStands D.image store.old (opening groups) [] 0 → IfSome (D.image (plain_disk store.old)) (λ _.
-        result ≡ Err Stop.Full → NoRoomOn P.acts (plain_head store.old) groups (plain_nature store.old).next key.now p.old (D.image (plain_disk store.new))) }
-    ensures no_memory { (groups : List Group) → PlainStands D.image store.old (opening groups) [] 0 → IfSome (D.image (plain_disk store.old)) (λ _.
-        result ≡ Err Stop.NoMemory → D.image (plain_disk store.new) ≡ Some (closed_text (plain_head store.old) groups (plain_nature store.old).next)) }
+    requires begun { (groups : List Group) × HashStands D.image D.may_leave store.old (opening groups) [] 0 }
+    requires open { (hash_shown D.image store.old).closed ≡ false }
+    requires limit { (hash_nature store.old).limit ≡ 2 ^ 40 }
+    requires low { (hash_nature store.old).writable ≡ true → (hash_nature store.old).next ≤ 2 ^ 62 }
+    requires may { ((was : Option (List ℕ)) → P.acts p.old key.now was ≡ Keep) ⊎ ((hash_nature store.old).writable ≡ true) }
+    ensures made { (groups : List Group) → HashStands D.image D.may_leave store.old (opening groups) [] 0 → IfSome (D.image (hash_disk store.old)) (λ _.
+        IfOk result (MadeOn P.acts P.turns (hash_head store.old) groups (hash_nature store.old).next (hash_nature store.old).writable key.now p.old p.new (D.image (hash_disk store.new)))) }
+    ensures no_room { (groups : List Group) → HashStands D.image D.may_leave store.old (opening groups) [] 0 → IfSome (D.image (hash_disk store.old)) (λ _.
+        result ≡ Err Stop.Full → NoRoomOn P.acts (hash_head store.old) groups (hash_nature store.old).next key.now p.old (D.image (hash_disk store.new))) }
+    ensures no_memory { (groups : List Group) → HashStands D.image D.may_leave store.old (opening groups) [] 0 → IfSome (D.image (hash_disk store.old)) (λ _.
+        result ≡ Err Stop.NoMemory → D.image (hash_disk store.new) ≡ Some (closed_text (hash_head store.old) groups (hash_nature store.old).next)) }
     ensures taken { (place : ℕ) → result ≡ Err (Stop.Refused place) → ⊥ }
-    ensures kept { OnOk result (D.fault_count (plain_disk store.new) ≡ D.fault_count (plain_disk store.old)) }
-    ensures later { D.fault_count (plain_disk store.old) ≤ D.fault_count (plain_disk store.new) }
-    ensures fault { result ≡ Err Stop.Fault → Rose (D.fault_count (plain_disk store.old)) (D.fault_count (plain_disk store.new)) }
+    ensures kept { OnOk result (D.fault_count (hash_disk store.new) ≡ D.fault_count (hash_disk store.old)) }
+    ensures later { D.fault_count (hash_disk store.old) ≤ D.fault_count (hash_disk store.new) }
+    ensures fault { result ≡ Err Stop.Fault → Rose (D.fault_count (hash_disk store.old)) (D.fault_count (hash_disk store.new)) }
 {
     let next = store.next_number();
     match run_on(alloc, store, next, key, p) {
@@ -127,7 +131,8 @@ pub(crate) fn run_call<D: Disk, P: RecordProcessor>(
     ensures later { D.fault_count disk ≤ D.fault_count result.disk }
     ensures fault { result.answer ≡ Err Stop.Fault → Rose (D.fault_count disk) (D.fault_count result.disk) }
 {
-    let mut store = match PlainStore::open(alloc, disk, writable) {
+    let alone = ShardOf { index: 0, of: 1 };
+    let mut store = match HashStore::open_file(alloc, disk, writable, LIMIT, alone) {
         Ok(store) => store,
         Err(refused) => {
             return Called {

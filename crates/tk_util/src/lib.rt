@@ -4,10 +4,8 @@
 mod call;
 mod end;
 mod key;
-mod plain;
 mod run;
 mod set;
-mod store;
 mod words;
 
 pub use run::run_util;
