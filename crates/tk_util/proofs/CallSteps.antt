@@ -129,10 +129,10 @@ kept_on image s t u groups number R same numbered told file go =
 -- what a call that was made says of the records before it
 abbrev pub Told : {D P : Type 0} (image : D → Option (List ℕ)) (may_leave : D → List ℕ → Type 0) (acts : P → List ℕ → Option (List ℕ) → Action) (turns : P → List ℕ → Option (List ℕ) → P) (s t : HashStore D) (key : List ℕ) (p q : P) (number : ℕ) (status : Status) → List Pair → Type 0
 Told image may_leave acts turns s t key p q number status m =
-    ((status ≡ short_status (acts p key (find key m))) × (q ≡ turns p key (find key m)))
-    × (TellsFullOfChanges {T = Status} (hash_nature s) (hash_shown image s) (call_changes acts p key m) (Ok status)
-    × ((map_in image t ≡ Some (touched Hash key (short (acts p key (find key m))) m))
-    × ((first : First) (since : List Group) (hard : ℕ) → HashStands image may_leave s first since hard → HashStands image may_leave t first (since ++ group_of number (call_changes acts p key m)) hard)))
+    (status ≡ short_status (acts p key (find key m))) × (q ≡ turns p key (find key m))
+    × TellsFullOfChanges {T = Status} (hash_nature s) (hash_shown image s) (call_changes acts p key m) (Ok status)
+    × (map_in image t ≡ Some (touched Hash key (short (acts p key (find key m))) m))
+    × ((first : First) (since : List Group) (hard : ℕ) → HashStands image may_leave s first since hard → HashStands image may_leave t first (since ++ group_of number (call_changes acts p key m)) hard)
 
 -- a call was made, and the store then closed
 pub made_on : {D P : Type 0} (image : D → Option (List ℕ)) (may_leave : D → List ℕ → Type 0) (acts : P → List ℕ → Option (List ℕ) → Action) (turns : P → List ℕ → Option (List ℕ) → P) (s t u : HashStore D) (key : List ℕ) (p q : P) (groups : List Group) (number closes : ℕ) (status : Status)
@@ -171,9 +171,9 @@ no_room_on image may_leave acts s u key p groups e a n l is st limit full after 
     })
 
 -- what is said of the records, in one
-pub said_of : (M : Option (List Pair)) (P Q R S T : List Pair → Type 0) → IfSome M P → IfSome M Q → IfSome M R → IfSome M S → IfSome M T → IfSome M (λ m. (P m × Q m) × (R m × (S m × T m)))
+pub said_of : (M : Option (List Pair)) (P Q R S T : List Pair → Type 0) → IfSome M P → IfSome M Q → IfSome M R → IfSome M S → IfSome M T → IfSome M (λ m. P m × Q m × R m × S m × T m)
 said_of None P Q R S T p q r s t = tt
-said_of (Some m) P Q R S T p q r s t = ((p, q), (r, (s, t)))
+said_of (Some m) P Q R S T p q r s t = (p, q, r, s, t)
 
 -- what is no want of memory and not full is a fault
 pub fault_only : (T R : Type 0) (e : StoreError) → OkOrFault {T = T} (Err e) → (IsErrOf {T = T} (Err e) errors.Fault → R) → R
