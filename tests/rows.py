@@ -79,6 +79,36 @@ def flipped(text, at):
     return text[:at] + bytes([text[at] ^ 1]) + text[at + 1:]
 
 
+# What can be at fault in a file of two sets in one bucket, in the order in which an opening looks, with the place.
+FAULTS = [
+    ("header", 0), ("kind", 8), ("closing part", 32), ("body", 120), ("number", 120), ("link", 136), ("group", 120), ("head", 64), ("count", 32)]
+
+
+def crafted(*faults):
+    """A file of the sets of a to 1 and of b to 22, with these faults."""
+    kind, order = (3, 1) if "kind" in faults else (1, 0)
+    number, last = int("number" not in faults), int("group" not in faults)
+    link = 72 + 8 * ("link" in faults)
+    blocks = block(1, 1, 0, b"a", b"1", 72, 0) + block(1, last, number, b"b", b"22", 120, link)
+    if "body" in faults:
+        blocks = flipped(blocks, 48 + 40)
+    static = b"TKPHASH\n" + bytes([kind, 1, 0, order]) + bytes(8) + (72).to_bytes(8, "big")
+    count, after = 2 + ("count" in faults), 2 + 2**62 * ("next" in faults)
+    closing = (168).to_bytes(8, "big") + count.to_bytes(8, "big") + after.to_bytes(8, "big") + bytes(4)
+    head = 120 - 48 * ("head" in faults)
+    parts = [static + fnv(static, 32).to_bytes(4, "big"), closing + fnv(closing, 32).to_bytes(4, "big")]
+    if "header" in faults:
+        parts[0] = flipped(parts[0], 31)
+    if "closing part" in faults:
+        parts[1] = flipped(parts[1], 31)
+    return parts[0] + parts[1] + head.to_bytes(8, "big") + blocks
+
+
+def each_from(i):
+    """This fault and all that an opening looks for later."""
+    return [what for what, _ in FAULTS[i:]] + ["next"]
+
+
 def left_open():
     """The closing part of a file that is open."""
     return bytes(28) + fnv(bytes(28), 32).to_bytes(4, "big")
@@ -91,11 +121,20 @@ def refused(text, place):
         ("get", "x.tkh", "a"), ("set", "x.tkh", "c", "3"), ("remove", "x.tkh", "a"))]
 
 
+def table(texts):
+    """Files that are refused, each at its place."""
+    files = {f"{i}.tkh": text for i, (text, _) in enumerate(texts)}
+    return files, [Step([*words], 3, err=b"file 0 refused at place %d\n" % place, files=files) for i, (_, place) in enumerate(texts)
+                   for words in (("get", f"{i}.tkh", "a"), ("set", f"{i}.tkh", "c", "3"))]
+
+
 FIRST = one_set(b"a", b"1")
 SECOND = hash_file([(0, [(1, b"a", b"1")]), (1, [(1, b"b", b"22")])], 2, 2)
 AGAIN = hash_file([(0, [(1, b"a", b"1")]), (1, [(1, b"a", b"2")])], 1, 2)
 REMOVED = hash_file([(0, [(1, b"a", b"1")]), (1, [(2, b"a", b"")])], 0, 2)
 REMOVED_TWICE = hash_file([(0, [(1, b"a", b"1")]), (1, [(2, b"a", b"")])], 0, 3)
+# A file whose value has, at its place, the text of a block.
+INSIDE = one_set(b"a", block(1, 1, 1, b"x", b"y", 8256 + 41, 0))
 LETTERS = one_set("\u00e9\u4e16".encode(), "\u00fc".encode())
 LATE = hash_file([(0, [(1, b"a", b"1")])], 1, 2**62 + 1)
 # Two sets of each key in one group of each; the later value counts.
@@ -180,6 +219,20 @@ ROWS = {
     "a next number that is too great to write": ({"x.tkh": LATE}, [
         Step(["set", "x.tkh", "b", "2"], 3, err=b"file 0 refused at place 48\n", files={"x.tkh": LATE}),
         Step(["get", "x.tkh", "a"], 0, out=b"1\n", files={"x.tkh": LATE})]),
+    "a link that leads to its own block": refused(
+        hash_file([(0, [(1, b"a", b"1")])], 1, 1, p=0)[:88] + (72).to_bytes(8, "big") + hash_file([(0, [(1, b"a", b"1")])], 1, 1, p=0)[96:], 88),
+    "a file without its last group": refused(SECOND[:8304], 32),
+    "each byte of the header changed": table([(flipped(FIRST, at), 32 * (at // 32)) for at in range(64)]),
+    "each fault before all later ones": table([(crafted(*each_from(i)), place) for i, (_, place) in enumerate(FAULTS)]),
+    "each fault alone": table([(crafted(what), place) for what, place in FAULTS]),
+    "no fault but a great next number": ({"x.tkh": crafted("next")}, [
+        Step(["set", "x.tkh", "c", "3"], 3, err=b"file 0 refused at place 48\n", files={"x.tkh": crafted("next")}),
+        Step(["get", "x.tkh", "b"], 0, out=b"22\n", files={"x.tkh": crafted("next")})]),
+    "a link of an earlier block before a body of a later one": refused(
+        crafted("body")[:88] + (8).to_bytes(8, "big") + crafted("body")[96:], 88),
+    "a block's text inside a value": ({"x.tkh": INSIDE}, [
+        Step(["get", "x.tkh", "x"], 6, err=b"answer NOT_FOUND_ERROR\n", files={"x.tkh": INSIDE}),
+        Step(["get", "x.tkh", "a"], 0, out=INSIDE[8256 + 41:8256 + 41 + 48] + b"\n", files={"x.tkh": INSIDE})]),
     "a file of tree pages": refused(hash_file([(0, [(1, b"a", b"1")])], 1, 1, kind=3, order=1), 8),
 }
 
