@@ -14,5 +14,6 @@ pub mod PlanLoop
 pub mod PlanSteps
 pub mod Readings
 pub mod Reopened
+pub mod Restoring
 pub mod WalkerSteps
 pub mod Walks
