@@ -132,7 +132,7 @@ pub heads_stand_all : (p : ℕ) (blocks : List Placed) (f : List ℕ) → AreByt
 unfolding heads_text
 heads_stand_all p blocks f are long none = heads_stand p (2 ^ p) blocks f are long (λ k below. head_all p blocks f (2 ^ p) 0 none k (omega arith) (omega arith))
 
-change_back : (n : ℕ) (c : Change) (last : Bool) → change_in (body_of n c last) ≡ c
+pub change_back : (n : ℕ) (c : Change) (last : Bool) → change_in (body_of n c last) ≡ c
 change_back n (Put p) last = refl
 change_back n (Drop k) last = refl
 change_back n Clear last = refl

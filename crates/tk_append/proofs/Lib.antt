@@ -3,6 +3,7 @@ pub mod ChainsSteps
 pub mod Checked
 pub mod ClosedFiles
 pub mod Countings
+pub mod Elapsed
 pub mod FreshSteps
 pub mod Groupings
 pub mod Joined
@@ -14,5 +15,6 @@ pub mod PlanLoop
 pub mod PlanSteps
 pub mod Readings
 pub mod Reopened
+pub mod Restoring
 pub mod WalkerSteps
 pub mod Walks

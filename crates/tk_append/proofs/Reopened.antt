@@ -41,7 +41,7 @@ use Rattle.tk_append.proofs.WalkerSteps.{walk_next, goes_on}
 use Rattle.tk_append.proofs.ClosedFiles.{changes_of, replayed}
 
 -- bodies that may follow one another, and end with a whole group
-abbrev Fit : (next : ℕ) (h : StaticHead) (shard : ShardOf) (least : ℕ) (open_group : Option Placed) (place : ℕ) → List Body → Type 0
+abbrev pub Fit : (next : ℕ) (h : StaticHead) (shard : ShardOf) (least : ℕ) (open_group : Option Placed) (place : ℕ) → List Body → Type 0
 Fit next h shard least open_group place [] = (open_group ≡ None) × (least ≤ next)
 Fit next h shard least open_group place (b ∷ bs) =
     FitsBody b × (not (b.kind == 3) ≡ true) × (is_in_turn least open_group b ≡ true) × (is_home h shard b ≡ true)
@@ -97,6 +97,10 @@ left_true : (t : Bool) → t ≡ true → (t || false) ≡ true
 left_true true is = refl
 left_true false is = absurd (cc is)
 
+pub least_upto : (next lo : ℕ) (gs : List Group) → AreGroups lo next gs → lo ≤ next
+least_upto next lo [] legal = legal
+least_upto next lo (g ∷ gs) legal = omega (arith, legal.0, least_upto next (g.number + 1) gs legal.4)
+
 module _ (next : ℕ) (h : StaticHead) (shard : ShardOf) where
   -- the rest of a group, then other bodies
   fit_rest : (least n place : ℕ) (x : Placed) (c : Change) (cs : List Change) (rest : List Body) → x.body.number ≡ n → n < 2 ^ 64 → AllFit (c ∷ cs) → HasNoClear (c ∷ cs) → (h.kind ≡ 1 → AllIn shard (c ∷ cs))
@@ -133,14 +137,10 @@ module _ (next : ℕ) (h : StaticHead) (shard : ShardOf) where
   fit_some least n place [] rest some most small fit one home more = absurd (some refl)
   fit_some least n place (c ∷ cs) rest some most small fit one home more = fit_group least n place c cs rest most small fit one home more
 
-  least_upto : (lo : ℕ) (gs : List Group) → AreGroups lo next gs → lo ≤ next
-  least_upto lo [] legal = legal
-  least_upto lo (g ∷ gs) legal = omega (arith, legal.0, least_upto (g.number + 1) gs legal.4)
-
-  fit_groups : (lo place : ℕ) (gs : List Group) → next < 2 ^ 64 → AreGroups lo next gs → (h.kind ≡ 1 → AllHome shard gs) → Fit next h shard lo None place (bodies_of gs)
+  pub fit_groups : (lo place : ℕ) (gs : List Group) → next ≤ 2 ^ 64 → AreGroups lo next gs → (h.kind ≡ 1 → AllHome shard gs) → Fit next h shard lo None place (bodies_of gs)
   fit_groups lo place [] small legal home = (refl, legal)
   fit_groups lo place (g ∷ gs) small legal home =
-      fit_some lo g.number place g.changes (bodies_of gs) legal.1 legal.0 (omega (arith, least_upto (g.number + 1) gs legal.4)) legal.2 legal.3 (λ e. (home e).0)
+      fit_some lo g.number place g.changes (bodies_of gs) legal.1 legal.0 (omega (arith, least_upto next (g.number + 1) gs legal.4)) legal.2 legal.3 (λ e. (home e).0)
       (fit_groups (g.number + 1) (end_of place (group_bodies g.number g.changes)) gs small legal.4 (λ e. (home e).1))
 
 by_tests : (s t : Bool) (found place m : ℕ) → found < m → place < m → cond s 0 (cond t place found) < m
@@ -211,7 +211,7 @@ walk_texts next h shard (suc n) w place (b ∷ bs) fuel fit end below =
       least = more.least;
     }
 
-count_upto : (place : ℕ) (bs : List Body) → place + length bs ≤ end_of place bs
+pub count_upto : (place : ℕ) (bs : List Body) → place + length bs ≤ end_of place bs
 count_upto place [] = omega arith
 count_upto place (b ∷ bs) = omega (arith, count_upto (place + extent_of b) bs)
 
@@ -336,7 +336,7 @@ opens_closed kinds writable shard h groups next m =
     let head : static_at f ≡ Some h = ap static_at parts ∙ statics.again h _ (m.head, m.generation) in
     let closing : closing_at (drop 32 f) ≡ Some c =
     ap (λ (l : List ℕ). closing_at (drop 32 l)) parts ∙ ap closing_at (drop_at (static_text h) (closing_text c ++ (heads ++ rest)) 32 (length-static_text h)) ∙ closings.again c _ (m.size, few, m.number) in
-    let v = walk_texts next h shard (length f) begin base bs (omega (arith, long, count_upto base bs)) (fit_groups next h shard 0 base groups m.number m.legal m.home) m.size (λ k. omega arith) in
+    let v = walk_texts next h shard (length f) begin base bs (omega (arith, long, count_upto base bs)) (fit_groups next h shard 0 base groups (omega (arith, m.number)) m.legal m.home) m.size (λ k. omega arith) in
     let small : (k : ℕ) → newest h.p k 0 blocks < 2 ^ 64 = λ k. newest_laid h.p k 0 base (2 ^ 64) bs (omega arith) (omega (arith, m.size)) in
     let stand : head_fault h.p blocks f (2 ^ h.p) 0 ≡ None =
     heads_right h.p blocks f (2 ^ h.p) 0 (λ k below. ap (λ (l : List ℕ). u64_in l (64 + 8 * k)) fronted ∙ head_read h.p k blocks (static_text h ++ closing_text c) rest front_long (omega arith) (small k)) in

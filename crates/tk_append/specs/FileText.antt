@@ -1,6 +1,5 @@
 -- The whole text of a file of groups, by its parts.
-use Rattle.std.specs.Prelude.{◌≡◌, ℕ, ◌+◌, ◌<◌, ◌^◌, List, [], ◌∷◌, ◌++◌, length, true}
-use Rattle.std.specs.Slice.{set}
+use Rattle.std.specs.Prelude.{◌≡◌, ℕ, ◌<◌, ◌^◌, List, ◌++◌, length, true}
 use Rattle.tk_model.specs.declared.record.Group.{Group}
 use Rattle.tk_block.specs.Text.{static_text, closing_text, is_static}
 use Rattle.tk_block.specs.Layout.{heads_text}

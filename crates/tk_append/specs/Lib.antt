@@ -12,4 +12,5 @@ pub mod OpeningLaws
 pub mod Pieces
 pub mod Read
 pub mod Restored
+pub mod RestoringLaws
 pub mod Walked

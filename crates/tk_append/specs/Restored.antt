@@ -1,5 +1,5 @@
 -- What a crash leaves of a file of groups: the longest front of complete groups that is read by the blocks' heads.
-use Rattle.std.specs.Prelude.{◌≡◌, ℕ, zero, suc, ◌+◌, ◌≤◌, List, [], ◌∷◌, ◌++◌, length, take, drop, Bool, not, Option, Some, None, IfSome, if◌then◌else◌, ◌&&◌, ◌==◌, nat_le}
+use Rattle.std.specs.Prelude.{◌≡◌, ℕ, zero, suc, ◌+◌, ◌≤◌, List, [], ◌∷◌, ◌++◌, length, take, drop, Bool, not, Option, Some, None, if◌then◌else◌, ◌&&◌, ◌==◌, nat_le}
 use Rattle.tk_model.specs.declared.record.Change.{Change}
 use Rattle.tk_model.specs.declared.record.Group.{Group}
 use Rattle.tk_block.specs.Text.{head_at, static_at, static_text, base_of}

@@ -1,8 +1,18 @@
 //! Laws, as functions that do nothing.
 ghost use Rattle.tk_append.specs.OpeningLaws.{OpensClosed, OpensOnlyClosed};
+ghost use Rattle.tk_append.specs.RestoringLaws.{ReadsBack, Restores, TornKeeps, FilesKeep, FrontsKept};
 
 /// Openings accept the closed files of groups, and nothing else.
 pub fn closed_files_open()
     ensures closed { OpensClosed }
     ensures only { OpensOnlyClosed }
+{}
+
+/// Files of groups are read back, and so are the images that a crash leaves of them.
+pub fn images_restore()
+    ensures whole { ReadsBack }
+    ensures restored { Restores }
+    ensures torn { TornKeeps }
+    ensures files { FilesKeep }
+    ensures fronts { FrontsKept }
 {}

@@ -16,7 +16,7 @@ mod walker;
 
 pub use fresh::write_fresh;
 pub use hashed::HashedRecords;
-pub use law::closed_files_open;
+pub use law::{closed_files_open, images_restore};
 pub use log::GroupLog;
 pub use open::{check_all, open_log};
 pub use plan::{Plan, extent_of_change, plan_group};
