@@ -25,4 +25,6 @@ pub use read::{CountedLog, ReadLog, read_counted, read_log};
 pub use restore::restore_groups;
 
 #[cfg(test)]
+mod crash_tests;
+#[cfg(test)]
 mod tests;
