@@ -15,6 +15,7 @@ pub mod PlanLoop
 pub mod PlanSteps
 pub mod Readings
 pub mod Reopened
+pub mod Rereading
 pub mod Restoring
 pub mod WalkerSteps
 pub mod Walks

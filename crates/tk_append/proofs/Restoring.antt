@@ -36,7 +36,7 @@ over_blocks w [] = sym (append-nil w.blocks)
 over_blocks w (x ∷ xs) = over_blocks (walked w x) xs ∙ append_assoc w.blocks (x ∷ []) xs
 
 -- a block that may be read is read
-block_on : (n : ℕ) (w : Walk) (place e : ℕ) (bytes : List ℕ) (b : Body) → head_at bytes place ≡ Some e → body_at (drop 24 bytes) place ≡ Some b → may_be_read w e b ≡ true
+pub block_on : (n : ℕ) (w : Walk) (place e : ℕ) (bytes : List ℕ) (b : Body) → head_at bytes place ≡ Some e → body_at (drop 24 bytes) place ≡ Some b → may_be_read w e b ≡ true
     → read_on (suc n) w place bytes ≡ read_on n (walked w (record { place = place; body = b })) (place + e) (drop e bytes)
 block_on n w place e bytes b head body may =
     ap (λ (o : Option ℕ). read_block w place o (body_at (drop 24 bytes) place) (λ v k. read_on n v (place + k) (drop k bytes))) head
@@ -94,7 +94,7 @@ read_front (suc n) w place [] c whole none =
 read_front (suc n) w place (b ∷ bs) c whole none =
     front_on (head_at (drop place c) place) (body_at (drop 24 (drop place c)) place) n w place b (laid (place + extent_of b) bs) c refl refl whole.0 (λ v. read_front n v (place + extent_of b) bs c whole.1 none)
 
-abbrev group_of : ℕ → List Change → Group
+abbrev pub group_of : ℕ → List Change → Group
 group_of n changes = record { number = n; changes = changes }
 
 -- the blocks of a group are that group
@@ -168,7 +168,7 @@ nothing_there : (place : ℕ) → head_at [] place ≡ None
 unfolding head_at
 nothing_there place = refl
 
-nothing_read : (n : ℕ) (w : Walk) (place : ℕ) → read_on n w place [] ≡ w
+pub nothing_read : (n : ℕ) (w : Walk) (place : ℕ) → read_on n w place [] ≡ w
 nothing_read zero w place = refl
 nothing_read (suc n) w place = ap (λ (o : Option ℕ). read_block w place o (body_at (drop 24 []) place) (λ v k. read_on n v (place + k) (drop k []))) (nothing_there place)
 

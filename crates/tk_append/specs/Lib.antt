@@ -11,6 +11,7 @@ pub mod Opening
 pub mod OpeningLaws
 pub mod Pieces
 pub mod Read
+pub mod Reread
 pub mod Restored
 pub mod RestoringLaws
 pub mod Walked

@@ -12,6 +12,7 @@ mod open;
 mod pieces;
 mod plan;
 mod read;
+mod restore;
 mod walker;
 
 pub use fresh::write_fresh;
@@ -21,6 +22,9 @@ pub use log::GroupLog;
 pub use open::{check_all, open_log};
 pub use plan::{Plan, extent_of_change, plan_group};
 pub use read::{CountedLog, ReadLog, read_counted, read_log};
+pub use restore::restore_groups;
 
+#[cfg(test)]
+mod crash_tests;
 #[cfg(test)]
 mod tests;

@@ -41,7 +41,7 @@ fn sum_of(disk: &MemDisk) -> (usize, u64) {
 }
 
 /// A disk of a set with no records.
-fn fresh_disk(alloc: Global) -> Result<MemDisk, Fail> {
+pub(crate) fn fresh_disk(alloc: Global) -> Result<MemDisk, Fail> {
     let mut disk = empty_disk(alloc)?;
     write_fresh(alloc, &mut disk, &head_of(1, 0), &PairList::new(alloc))?;
     Ok(disk)
@@ -54,7 +54,7 @@ fn without_last(bytes: &[u8]) -> &[u8] {
     }
 }
 
-const ALONE: ShardOf = ShardOf { index: 0, of: 1 };
+pub(crate) const ALONE: ShardOf = ShardOf { index: 0, of: 1 };
 
 #[test]
 fn three_records_in_one_bucket(rt: HostRuntime) -> Result<(), Fail> {

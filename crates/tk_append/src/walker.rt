@@ -93,7 +93,11 @@ fn is_home(head: &StaticHead, shard_of: ShardOf, found: &FoundBlock<'_>) -> bool
 }
 
 /// The block may follow those before it in its group, or begin a group.
-fn is_in_turn(before: Option<u64>, open_group: Option<OpenGroup>, block: Block<'_>) -> bool
+pub(crate) fn is_in_turn(
+    before: Option<u64>,
+    open_group: Option<OpenGroup>,
+    block: Block<'_>,
+) -> bool
     ensures { result ≡ turn_in before open_group (said block.entry) }
 {
     match open_group {

@@ -1,0 +1,16 @@
+use Rattle.std.proofs.Common.{sym}
+use Rattle.tk_block.specs.Blocks.{said}
+use Rattle.tk_append.proofs.Rereading.{none_short, behind_link, value_small}
+use Rattle.tk_append.proofs.restore.block_at.Goals as goal
+
+pub returns-then-bytes-lt24 : goal.returns-then-bytes-lt24
+returns-then-bytes-lt24 c = none_short c.args.place c.args.bytes.now c.if-bytes-lt24.true
+
+pub returns : goal.returns
+returns c =
+    let fits = (c.in_ok-block.ensures.exact.found _ (said c.in_ok-block.block) (sym c.in_ok-block.ensures.value)).0 in
+    record {
+      head = sym c.in_ok-extent.ensures.value;
+      body = behind_link c.args.place c.args.bytes.now _ (sym c.in_ok-block.ensures.value);
+      small = record { key_fits = fits.1; value_fits = value_small (said c.in_ok-block.block) fits.0 };
+    }
