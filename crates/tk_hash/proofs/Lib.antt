@@ -2,4 +2,6 @@ pub mod Chained
 pub mod Chains
 pub mod Filled
 pub mod Fronts
+pub mod Looks
 pub mod Seen
+pub mod Sought

@@ -37,8 +37,9 @@ pub record Sees (key : List ℕ) (b : Body) (link : ℕ) (buffer : List ℕ) (ha
   pub told : has ≡ same_bytes key b.key
   pub shows : has ≡ true → Shows b buffer
 
--- the block that decides what a key has
-pub record Decides (key : List ℕ) (xs : List Placed) (f buffer : List ℕ) (place : ℕ) : Type 0 where
+-- The block that decides what a key has: the buffer has its front, and of the bytes that the chain allows to be read those that
+-- the buffer has not are left.
+pub record Decides (key : List ℕ) (xs : List Placed) (f buffer : List ℕ) (before now place : ℕ) : Type 0 where
   pub block : Placed
   pub link : ℕ
   pub stands : StandsAt f block link
@@ -46,8 +47,16 @@ pub record Decides (key : List ℕ) (xs : List Placed) (f buffer : List ℕ) (pl
   pub key_is : block.body.key ≡ key
   pub shows : Shows block.body buffer
   pub value : value_by key xs ≡ value_in block.body
+  pub left : now + extent_of block.body ≤ before + extents xs + shown block.body (length buffer)
 
 -- what a walk along a chain came to
-abbrev pub Found : List ℕ → List Placed → List ℕ → List ℕ → Option ℕ → Type 0
-Found key xs f buffer None = value_by key xs ≡ None
-Found key xs f buffer (Some place) = Decides key xs f buffer place
+abbrev pub Found : List ℕ → List Placed → List ℕ → List ℕ → (before now : ℕ) → Option ℕ → Type 0
+Found key xs f buffer before now None = value_by key xs ≡ None
+Found key xs f buffer before now (Some place) = Decides key xs f buffer before now place
+
+-- what is left of a walk along a chain
+pub record Left (key : List ℕ) (xs : List Placed) (f : List ℕ) (before now place : ℕ) : Type 0 where
+  pub rest : List Placed
+  pub chained : IsChained f place rest
+  pub value : value_by key xs ≡ value_by key rest
+  pub cost : now + extents rest ≤ before + extents xs
