@@ -1,7 +1,7 @@
 -- The front of a value, from what the buffer has of it and what is read behind that.
 use Rattle.std.proofs.Common.{◌≡◌, ℕ, ◌+◌, ◌-◌, ◌<◌, ◌≤◌, ◌^◌, List, [], ◌∷◌, ◌++◌, length, take, drop, refl, sym, ◌∙◌, ap, arith, length-append}
 use Rattle.std.specs.Prelude.{min, max, Option, Some, None, IfSome}
-use Rattle.std.proofs.lemmas.List.{take_at, drop_all, append-nil, length-take, length-drop, drop-drop, take-append-le}
+use Rattle.std.proofs.lemmas.List.{take_at, take_all, drop_all, append-nil, length-take, length-drop, drop-drop, take-append-le}
 use Rattle.std.proofs.Math.Seq.{take-add}
 use borrow.Rule.Slice.PartMut.{put_mid}
 use Rattle.tk_block.specs.declared.block.Body.{Body}
@@ -84,3 +84,12 @@ pub filled_more_told : (o : Option (List ℕ)) (x : Placed) (link place k have c
 filled_more_told None x link place k have cell buffer into copy ys count bytes fits more is read = tt
 filled_more_told (Some f) x link place k have cell buffer into copy ys count bytes fits more is read = λ stands at key shows short.
     filled_more x k have buffer into copy key shows short count bytes fits f link place cell ys stands at more is read
+
+-- a whole value in a vector
+pub whole_told : (o : Option (List ℕ)) (x : Placed) (link place len k n : ℕ) (buffer items old new given : List ℕ) → given ≡ take n (new ++ drop (length new) items) → n ≡ length items → length items ≡ len → length new ≡ len → length old ≡ len
+    → IfSome o (λ f. StandsAt f x link → x.place ≡ place → length x.body.key ≡ k → Shows x.body buffer → length old ≤ length x.body.value → new ≡ take (length old) x.body.value)
+    → IfSome o (λ f. StandsAt f x link → x.place ≡ place → length x.body.key ≡ k → Shows x.body buffer → len ≡ length x.body.value → given ≡ x.body.value)
+whole_told None x link place len k n buffer items old new given is count items_len new_len old_len filled = tt
+whole_told (Some f) x link place len k n buffer items old new given is count items_len new_len old_len filled = λ stands at key shows same.
+    is ∙ take_at new (drop (length new) items) n (omega (arith, count, items_len, new_len))
+    ∙ filled stands at key shows (omega (arith, old_len, same)) ∙ take_all (length old) x.body.value (omega (arith, old_len, same))

@@ -5,3 +5,4 @@ pub mod Fronts
 pub mod Looks
 pub mod Seen
 pub mod Sought
+pub mod Values

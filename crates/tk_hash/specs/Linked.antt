@@ -6,6 +6,7 @@ use Rattle.tk_block.specs.Blocks.{block_text, extent_of, room_of}
 use Rattle.tk_block.specs.Grammar.{FitsBody}
 use Rattle.tk_block.specs.Layout.{Placed}
 use Rattle.tk_block.specs.declared.block.Body.{Body}
+use Rattle.tk_hash.specs.declared.seek.ValueAt.{ValueAt}
 use Rattle.tk_hash.specs.Chain.{value_in, value_by, extents}
 
 -- the text of a block stands at its place, with a link that goes down
@@ -53,6 +54,23 @@ pub record Decides (key : List ℕ) (xs : List Placed) (f buffer : List ℕ) (be
 abbrev pub Found : List ℕ → List Placed → List ℕ → List ℕ → (before now : ℕ) → Option ℕ → Type 0
 Found key xs f buffer before now None = value_by key xs ≡ None
 Found key xs f buffer before now (Some place) = Decides key xs f buffer before now place
+
+-- a value stands behind the key in a block that the buffer shows
+pub record HasValue (key : List ℕ) (value : Option (List ℕ)) (f buffer : List ℕ) (before now cost : ℕ) (v : ValueAt) : Type 0 where
+  pub block : Placed
+  pub link : ℕ
+  pub stands : StandsAt f block link
+  pub at : block.place ≡ v.place
+  pub key_is : block.body.key ≡ key
+  pub shows : Shows block.body buffer
+  pub value_is : value ≡ Some block.body.value
+  pub len : v.len ≡ length block.body.value
+  pub left : now + extent_of block.body ≤ before + cost + shown block.body (length buffer)
+
+-- what a search for a value came to
+abbrev pub Sought : List ℕ → Option (List ℕ) → (f buffer : List ℕ) → (before now cost : ℕ) → Option ValueAt → Type 0
+Sought key value f buffer before now cost None = value ≡ None
+Sought key value f buffer before now cost (Some v) = HasValue key value f buffer before now cost v
 
 -- what is left of a walk along a chain
 pub record Left (key : List ℕ) (xs : List Placed) (f : List ℕ) (before now place : ℕ) : Type 0 where

@@ -85,6 +85,7 @@ pub(crate) fn has_key_at<D: Disk>(
 ) -> Result<bool, StoreError>
     requires front { 48 ≤ length buffer.old }
     requires key { min 65575 (40 + length key.now) ≤ length buffer.old }
+    ensures short { IfOk result (λ has. has ≡ true → length key.now < 65536) }
     ensures sees { (x : Placed) (link : ℕ) → IfSome (D.image disk.old) (λ f. StandsAt f x link → x.place ≡ place → IfOk result (Sees key.now x.body link buffer.new)) }
     ensures cost { (x : Placed) (link : ℕ) → IfSome (D.image disk.old) (λ f. StandsAt f x link → x.place ≡ place → D.taken_count disk.new ≤ D.taken_count disk.old + shown x.body (length buffer.old)) }
     ensures image { D.image disk.new ≡ D.image disk.old }
