@@ -1,6 +1,10 @@
 -- New heads of buckets.
-use Rattle.std.specs.Prelude.{◌≡◌, ℕ, ◌<◌, ◌^◌, List, [], ◌∷◌, length, replicate}
+use Rattle.std.specs.Prelude.{◌≡◌, ℕ, ◌*◌, ◌<◌, ◌^◌, List, [], ◌∷◌, length, replicate, Option}
+use Rattle.std.specs.Option.{is_some}
 use Rattle.std.proofs.Math.ListN.{set}
+use Rattle.tk_disk.specs.Crash.{Torn, Follows, LeavesOnly}
+use Rattle.tk_append.specs.declared.log.GroupLog.{GroupLog}
+use Rattle.tk_append.specs.LogParts.{log_disk, log_head, log_end}
 use Rattle.tk_hash.specs.declared.plan.NewHead.{NewHead}
 use Rattle.tk_hash.specs.declared.plan.NewHeads.{NewHeads}
 use Rattle.tk_hash.specs.declared.plan.NewHeads.TheVariants.{Cleared, Renewed}
@@ -22,3 +26,12 @@ AllBelow number (n ∷ ns) = (n.bucket < number) × AllBelow number ns
 abbrev pub FitHeads : (p : ℕ) → NewHeads → Type 0
 FitHeads p Cleared = Unit {0}
 FitHeads p (Renewed ns) = AllBelow (2 ^ p) ns.items
+
+-- what writes of heads leave as it was, and what a crash may leave: what it did before, but for the heads
+pub record Puts {D : Type 0} (image : D → Option (List ℕ)) (may_leave : D → List ℕ → Type 0) (moment : D → ℕ) (left_since : D → ℕ → List ℕ → Type 0) (taken : D → ℕ) (old new : GroupLog D) : Type 0 where
+  pub head : log_head new ≡ log_head old
+  pub end : log_end new ≡ log_end old
+  pub told : is_some (image (log_disk new)) ≡ is_some (image (log_disk old))
+  pub taken_same : taken (log_disk new) ≡ taken (log_disk old)
+  pub crash : Follows (Torn 64 (8 * 2 ^ (log_head old).p)) (may_leave (log_disk old)) (may_leave (log_disk new))
+  pub time : LeavesOnly moment left_since (log_disk old) (log_disk new) (λ c. (d : List ℕ) × may_leave (log_disk old) d × Torn 64 (8 * 2 ^ (log_head old).p) d c)
