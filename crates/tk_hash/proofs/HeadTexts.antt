@@ -156,3 +156,7 @@ all_zero h c groups image old b long has =
 pub zero_bytes : (zeros bytes : List ℕ) (n : ℕ) → zeros ≡ replicate (length zeros) 0 → 8 * n ≤ length zeros → bytes ≡ take (8 * n) zeros → bytes ≡ words_text (replicate n 0)
 zero_bytes zeros bytes n are within is =
     is ∙ ap (λ (l : List ℕ). take (8 * n) l) are ∙ take-replicate (8 * n) (length zeros) 0 within ∙ sym (zero_words n)
+
+pub if_both : (o : Option (List ℕ)) (P Q R : List ℕ → Type 0) → IfSome o P → IfSome o Q → ((f : List ℕ) → P f → Q f → R f) → IfSome o R
+if_both None P Q R one two more = tt
+if_both (Some f) P Q R one two more = more f one two

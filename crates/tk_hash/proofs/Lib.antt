@@ -1,2 +1,4 @@
+pub mod Chained
+pub mod Counted
 pub mod HeadTexts
 pub mod Writings

@@ -1,7 +1,15 @@
 -- New heads of buckets.
-use Rattle.std.specs.Prelude.{◌≡◌, ℕ, ◌*◌, ◌<◌, ◌^◌, List, [], ◌∷◌, length, replicate, Option}
-use Rattle.std.specs.Option.{is_some}
+use Rattle.std.specs.Prelude.{◌≡◌, ℕ, ◌+◌, ◌-◌, Bool, not, Some, None, ◌*◌, ◌<◌, ◌^◌, List, [], ◌∷◌, length, replicate, Option, if◌then◌else◌, ◌==◌}
+use Rattle.std.specs.Option.{is_some, unwrap_or}
+use Rattle.std.specs.Ordering.{nat_cmp}
+use Rattle.std.specs.BTreeMap.{BTreeMap, get}
 use Rattle.std.proofs.Math.ListN.{set}
+use Rattle.tk_model.specs.declared.record.Order.TheVariants.{Hash}
+use Rattle.tk_model.specs.declared.record.Pair.{Pair}
+use Rattle.tk_model.specs.declared.record.Change.{Change}
+use Rattle.tk_model.specs.declared.record.Change.TheVariants as changes
+use Rattle.tk_model.specs.Records.{put}
+use Rattle.tk_block.specs.Blocks.{is_nil}
 use Rattle.tk_disk.specs.Crash.{Torn, Follows, LeavesOnly}
 use Rattle.tk_append.specs.declared.log.GroupLog.{GroupLog}
 use Rattle.tk_append.specs.LogParts.{log_disk, log_head, log_end}
@@ -35,3 +43,34 @@ pub record Puts {D : Type 0} (image : D → Option (List ℕ)) (may_leave : D �
   pub taken_same : taken (log_disk new) ≡ taken (log_disk old)
   pub crash : Follows (Torn 64 (8 * 2 ^ (log_head old).p)) (may_leave (log_disk old)) (may_leave (log_disk new))
   pub time : LeavesOnly moment left_since (log_disk old) (log_disk new) (λ c. (d : List ℕ) × may_leave (log_disk old) d × Torn 64 (8 * 2 ^ (log_head old).p) d c)
+
+-- the newest of these places in a bucket; before any, the place that was found
+abbrev pub placed_in : List NewHead → (bucket found : ℕ) → ℕ
+placed_in [] bucket found = found
+placed_in (n ∷ ns) bucket found = placed_in ns bucket (if n.bucket == bucket then n.place else found)
+
+-- the map has the newest place of each bucket
+abbrev pub IsNewest : BTreeMap ℕ ℕ → List NewHead → Type 0
+IsNewest newest heads = (bucket found : ℕ) → unwrap_or (get nat_cmp newest bucket) found ≡ placed_in heads bucket found
+
+-- the mark of a change's key: a byte where the key is there behind it
+abbrev pub mark_in : Change → Pair
+mark_in (changes.Put p) = record { key = p.key; value = 1 ∷ [] }
+mark_in (changes.Drop k) = record { key = k; value = [] }
+mark_in changes.Clear = record { key = []; value = [] }
+
+-- the last mark of each key
+abbrev pub marked : List Change → List Pair → List Pair
+marked [] marks = marks
+marked (c ∷ cs) marks = marked cs (put Hash (mark_in c) marks)
+
+-- a key is there by its mark, or else as it was
+abbrev pub told_there : (mark : Option (List ℕ)) → (was : Bool) → Bool
+told_there None was = was
+told_there (Some v) was = not (is_nil v)
+
+-- the number of records behind a change of a key that was there or not
+abbrev pub count_after : Change → (count : ℕ) → (there : Bool) → ℕ
+count_after (changes.Put p) count there = if there then count else count + 1
+count_after (changes.Drop k) count there = if there then count - 1 else count
+count_after changes.Clear count there = 0
