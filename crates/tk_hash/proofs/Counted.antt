@@ -11,12 +11,16 @@ use Rattle.tk_model.specs.declared.record.Order.TheVariants.{Hash}
 use Rattle.tk_model.specs.declared.record.Pair.{Pair}
 use Rattle.tk_model.specs.declared.record.Change.{Change}
 use Rattle.tk_model.specs.declared.record.Change.TheVariants as changes
-use Rattle.tk_model.proofs.KeyOrders.{same_told, same_itself}
+use Rattle.tk_model.proofs.KeyOrders.{keys_apart, same_told, same_itself}
 use Rattle.tk_model.proofs.RecordLaws.{so_or_not, apart_less, apart_greater, behind_earlier, none_behind, found_head, found_deeper, find_put_same, find_put_other, find_without_same, find_without_other, one_rising, after_rising}
 use Rattle.tk_model.proofs.NetChanges.{after_append}
 use Rattle.tk_block.specs.Blocks.{key_of}
 use Rattle.tk_hash.specs.Plan.{mark_in, marked, told_there, count_after}
 use Rattle.tk_hash.proofs.Chained.{no_clear_rest}
+
+grow : (b : Bool) (n : ℕ) → suc (cond b n (n + 1)) ≡ cond b (suc n) (suc n + 1)
+grow true n = refl
+grow false n = omega arith
 
 length-put_by : (c : Ordering) (new p : Pair) (ps deeper : List Pair) → key_cmp Hash new.key p.key ≡ c → AllBehind Hash p.key ps
     → length deeper ≡ cond (is_some (find new.key ps)) (length ps) (length ps + 1)
@@ -25,7 +29,9 @@ length-put_by Less new p ps deeper is behind more =
     let none : find new.key (p ∷ ps) ≡ None = none_behind Hash new.key (p ∷ ps) (is, behind_earlier Hash new.key p.key ps is behind) in
     let long : suc (suc (length ps)) ≡ suc (length ps) + 1 = omega arith in
     long ∙ sym (ap (λ (o : Option (List ℕ)). cond (is_some o) (suc (length ps)) (suc (length ps) + 1)) none)
-length-put_by Equal new p ps deeper is behind more = ?
+length-put_by Equal new p ps deeper is behind more =
+    let same : find new.key (p ∷ ps) ≡ Some p.value = found_head new.key p ps (subst (λ (k : List ℕ). same_bytes new.key k ≡ true) (keys_apart Hash new.key p.key is) (same_itself new.key)) in
+    sym (ap (λ (o : Option (List ℕ)). cond (is_some o) (suc (length ps)) (suc (length ps) + 1)) same)
 length-put_by Greater new p ps deeper is behind more =
     let deep : find new.key (p ∷ ps) ≡ find new.key ps = found_deeper new.key p ps (apart_greater Hash new.key p.key is) in
     ap suc more ∙ grow (is_some (find new.key ps)) (length ps) ∙ sym (ap (λ (o : Option (List ℕ)). cond (is_some o) (suc (length ps)) (suc (length ps) + 1)) deep)
@@ -35,10 +41,25 @@ length-put : (new : Pair) (m : List Pair) → Rising Hash m → length (put Hash
 length-put new [] rising = refl
 length-put new (p ∷ ps) rising = length-put_by (key_cmp Hash new.key p.key) new p ps (put Hash new ps) refl rising.0 (length-put new ps rising.1)
 
+less : (b : Bool) (n m : ℕ) → n + cond b 1 0 ≡ m → n ≡ cond b (m - 1) m
+less true n m is = omega (arith, is)
+less false n m is = omega (arith, is)
+
+picked : (b : Bool) (k : List ℕ) (p : Pair) (ps deeper : List Pair) → same_bytes k p.key ≡ b → length deeper + cond (is_some (find k ps)) 1 0 ≡ length ps
+    → length (if b then ps else p ∷ deeper) + cond (is_some (find k (p ∷ ps))) 1 0 ≡ length (p ∷ ps)
+picked true k p ps deeper is more =
+    let one : length ps + 1 ≡ length (p ∷ ps) = omega arith in
+    ap (λ (o : Option (List ℕ)). length ps + cond (is_some o) 1 0) (found_head k p ps is) ∙ one
+picked false k p ps deeper is more =
+    ap (λ (o : Option (List ℕ)). suc (length deeper) + cond (is_some o) 1 0) (found_deeper k p ps is) ∙ omega (arith, more)
+
+with_dropped : (k : List ℕ) (m : List Pair) → length (without k m) + cond (is_some (find k m)) 1 0 ≡ length m
+with_dropped k [] = refl
+with_dropped k (p ∷ ps) = picked (same_bytes k p.key) k p ps (without k ps) refl (with_dropped k ps)
+
 -- a key that is dropped is one less, if it was there
 length-without : (k : List ℕ) (m : List Pair) → length (without k m) ≡ cond (is_some (find k m)) (length m - 1) (length m)
-length-without k [] = refl
-length-without k (p ∷ ps) = ?
+length-without k m = less (is_some (find k m)) (length (without k m)) (length m) (with_dropped k m)
 
 pub length-after_one : (c : Change) (m : List Pair) → Rising Hash m → length (after_one Hash c m) ≡ count_after c (length m) (is_some (find (key_of c) m))
 length-after_one (changes.Put p) m rising = length-put p m rising
@@ -46,7 +67,7 @@ length-after_one (changes.Drop k) m rising = length-without k m
 length-after_one changes.Clear m rising = refl
 
 -- the marks tell of each key whether it is there
-pub abbrev Tell : (marks first now : List Pair) → Type 0
+abbrev pub Tell : (marks first now : List Pair) → Type 0
 Tell marks first now = (k : List ℕ) → told_there (find k marks) (is_some (find k first)) ≡ is_some (find k now)
 
 tell_put : (p : Pair) (marks first now : List Pair) → Tell marks first now → Tell (put Hash (mark_in (changes.Put p)) marks) first (put Hash p now)

@@ -1,4 +1,5 @@
 pub mod Chained
 pub mod Counted
 pub mod HeadTexts
+pub mod ReadSteps
 pub mod Writings

@@ -1,5 +1,5 @@
 //! What a group needs beside its changes: the links of its blocks, the new heads, and the count of records behind it.
-ghost use Rattle.std.specs.Prelude.{◌≡◌, ◌+◌, ◌*◌, ◌≤◌, ◌^◌, ◌++◌, ℕ, List, [], length, replicate, IfOk, IfSome, OnOk, Some};
+ghost use Rattle.std.specs.Prelude.{◌≡◌, ◌+◌, ◌*◌, ◌≤◌, ◌^◌, ◌++◌, ◌∷◌, ℕ, List, [], length, replicate, IfOk, IfSome, OnOk, Some};
 ghost use Rattle.std.specs.Option.{is_some};
 ghost use Rattle.tk_disk.specs.Crash.{Torn, Follows, LeavesOnly};
 ghost use Rattle.tk_disk.specs.Disk.{HasCause as HasDiskCause};
@@ -16,13 +16,16 @@ ghost use Rattle.tk_append.specs.Log.{blocks_of};
 ghost use Rattle.tk_append.specs.LogParts.{log_disk, log_head, log_end};
 ghost use Rattle.tk_append.specs.FileText.{text_with, IsFile};
 ghost use Rattle.tk_append.specs.Read.{OnlyReads};
+ghost use Rattle.tk_hash.specs.declared.plan.NewHeads.TheVariants.{Cleared};
 ghost use Rattle.tk_hash.specs.Plan.{with_new, with_heads, AllBelow, FitHeads, Puts};
 
+use crate::counts::count_changes;
+use crate::links::chain_changes;
 use std::alloc::Global;
 use tk_append::GroupLog;
 use tk_block::{LinkList, StaticHead};
 use tk_disk::{Disk, DiskError};
-use tk_model::ChangeList;
+use tk_model::{Change, ChangeList, NoMemory};
 use tk_store::StoreError;
 
 /// A bucket's newest block.
@@ -47,6 +50,21 @@ pub(crate) struct Plan {
     pub links: LinkList,
     pub heads: NewHeads,
     pub count: u64,
+}
+
+/// The plan of a clear.
+fn plan_clear(alloc: Global) -> Result<Plan, NoMemory>
+    ensures links { IfOk result (λ plan. plan.links ≡ 0 ∷ []) }
+    ensures heads { IfOk result (λ plan. plan.heads ≡ Cleared) }
+    ensures count { IfOk result (λ plan. plan.count ≡ 0) }
+{
+    let mut links = LinkList::new(alloc);
+    links.push(0)?;
+    Ok(Plan {
+        links,
+        heads: NewHeads::Cleared,
+        count: 0,
+    })
 }
 
 /// Plans a group that goes to the end of a file of so many records. The buffer holds a key while it is compared.
@@ -79,7 +97,17 @@ pub(crate) fn plan_changes<D: Disk>(
     ensures cause { HasCause (D.fault_count disk.old) (D.fault_count disk.new) result }
     ensures never { NeverFull result }
 {
-    Err(StoreError::NoMemory)
+    let changes = changes.as_slice();
+    if let [Change::Clear] = changes {
+        return Ok(plan_clear(alloc)?);
+    }
+    let chains = chain_changes(alloc, disk, head, end, changes)?;
+    let count = count_changes(alloc, disk, head, count, buffer, changes)?;
+    Ok(Plan {
+        links: chains.links,
+        heads: NewHeads::Renewed(chains.heads),
+        count,
+    })
 }
 
 /// Zero heads, as many as are written at once.

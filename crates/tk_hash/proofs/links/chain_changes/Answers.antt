@@ -1,4 +1,4 @@
-use Rattle.std.proofs.Common.{rules, ◌≡◌, ℕ, ◌+◌, ◌-◌, ◌*◌, ◌≤◌, ◌<◌, ◌^◌, ◌∷◌, ◌++◌, List, [], length, take, drop, sym, ◌∙◌, ap, subst, arith}
+use Rattle.std.proofs.Common.{◌≡◌, ℕ, ◌+◌, ◌-◌, ◌*◌, ◌≤◌, ◌<◌, ◌^◌, ◌∷◌, ◌++◌, List, [], length, take, drop, sym, ◌∙◌, ap, subst, arith}
 use Rattle.std.specs.Prelude.{Option, IfSome}
 use Rattle.std.proofs.lemmas.List.{drop_all}
 use Rattle.tk_model.specs.declared.record.Change.{Change}
@@ -13,6 +13,7 @@ use Rattle.tk_hash.specs.declared.plan.NewHead.{NewHead}
 use Rattle.tk_hash.specs.Plan.{with_new, AllBelow, placed_in, IsNewest}
 use Rattle.tk_hash.proofs.HeadTexts.{if_some, if_both}
 use Rattle.tk_hash.proofs.Chained.{here, rest_ends, chained_more, file_heads, heads_there, no_clear_rest, below_last, back_to}
+use Rattle.tk_hash.proofs.ReadSteps.{reads_more}
 use Rattle.tk_hash.proofs.links.chain_changes.Goals as goal
 
 pub overflow_add-place : goal.overflow_add-place
@@ -62,7 +63,7 @@ loop-change-preserved g c =
       no_clear = no_clear_rest x rest none;
       ends = λ number. rest_ends place extent c.args.end i x cs number at (c.extent_of_change-place.ensures number (is_nil rest)) (so_far.ends number);
       image = e.image ∙ so_far.image;
-      still = search rules;
+      still = reads_more disk.may_leave disk.moment disk.left_since g.met.D.Disk.counts_now c.args.disk.now c.loop-change.disk c.chain_key.new.disk so_far.still e.still;
       taken = omega (arith, so_far.taken, e.taken);
       count = e.cause.kept ∙ so_far.count;
     }
