@@ -1,8 +1,13 @@
 pub mod Chained
 pub mod Chains
+pub mod Counted
 pub mod Filled
 pub mod Fronts
+pub mod GroupChained
+pub mod HeadTexts
 pub mod Looks
+pub mod ReadSteps
 pub mod Seen
 pub mod Sought
 pub mod Values
+pub mod Writings

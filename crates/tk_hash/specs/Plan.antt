@@ -1,6 +1,18 @@
 -- New heads of buckets.
-use Rattle.std.specs.Prelude.{◌≡◌, ℕ, ◌<◌, ◌^◌, List, [], ◌∷◌, length, replicate}
+use Rattle.std.specs.Prelude.{◌≡◌, ℕ, ◌+◌, ◌-◌, Bool, not, Some, None, ◌*◌, ◌<◌, ◌^◌, List, [], ◌∷◌, length, replicate, Option, if◌then◌else◌, ◌==◌}
+use Rattle.std.specs.Option.{is_some, unwrap_or}
+use Rattle.std.specs.Ordering.{nat_cmp}
+use Rattle.std.specs.BTreeMap.{BTreeMap, get}
 use Rattle.std.proofs.Math.ListN.{set}
+use Rattle.tk_model.specs.declared.record.Order.TheVariants.{Hash}
+use Rattle.tk_model.specs.declared.record.Pair.{Pair}
+use Rattle.tk_model.specs.declared.record.Change.{Change}
+use Rattle.tk_model.specs.declared.record.Change.TheVariants as changes
+use Rattle.tk_model.specs.Records.{put}
+use Rattle.tk_block.specs.Blocks.{is_nil}
+use Rattle.tk_disk.specs.Crash.{Torn, Follows, LeavesOnly}
+use Rattle.tk_append.specs.declared.log.GroupLog.{GroupLog}
+use Rattle.tk_append.specs.LogParts.{log_disk, log_head, log_end}
 use Rattle.tk_hash.specs.declared.plan.NewHead.{NewHead}
 use Rattle.tk_hash.specs.declared.plan.NewHeads.{NewHeads}
 use Rattle.tk_hash.specs.declared.plan.NewHeads.TheVariants.{Cleared, Renewed}
@@ -22,3 +34,43 @@ AllBelow number (n ∷ ns) = (n.bucket < number) × AllBelow number ns
 abbrev pub FitHeads : (p : ℕ) → NewHeads → Type 0
 FitHeads p Cleared = Unit {0}
 FitHeads p (Renewed ns) = AllBelow (2 ^ p) ns.items
+
+-- what writes of heads leave as it was, and what a crash may leave: what it did before, but for the heads
+pub record Puts {D : Type 0} (image : D → Option (List ℕ)) (may_leave : D → List ℕ → Type 0) (moment : D → ℕ) (left_since : D → ℕ → List ℕ → Type 0) (taken : D → ℕ) (old new : GroupLog D) : Type 0 where
+  pub head : log_head new ≡ log_head old
+  pub end : log_end new ≡ log_end old
+  pub told : is_some (image (log_disk new)) ≡ is_some (image (log_disk old))
+  pub taken_same : taken (log_disk new) ≡ taken (log_disk old)
+  pub crash : Follows (Torn 64 (8 * 2 ^ (log_head old).p)) (may_leave (log_disk old)) (may_leave (log_disk new))
+  pub time : LeavesOnly moment left_since (log_disk old) (log_disk new) (λ c. (d : List ℕ) × may_leave (log_disk old) d × Torn 64 (8 * 2 ^ (log_head old).p) d c)
+
+-- the newest of these places in a bucket; before any, the place that was found
+abbrev pub placed_in : List NewHead → (bucket found : ℕ) → ℕ
+placed_in [] bucket found = found
+placed_in (n ∷ ns) bucket found = placed_in ns bucket (if n.bucket == bucket then n.place else found)
+
+-- the map has the newest place of each bucket
+abbrev pub IsNewest : BTreeMap ℕ ℕ → List NewHead → Type 0
+IsNewest newest heads = (bucket found : ℕ) → unwrap_or (get nat_cmp newest bucket) found ≡ placed_in heads bucket found
+
+-- the mark of a change's key: a byte where the key is there behind it
+abbrev pub mark_in : Change → Pair
+mark_in (changes.Put p) = record { key = p.key; value = 1 ∷ [] }
+mark_in (changes.Drop k) = record { key = k; value = [] }
+mark_in changes.Clear = record { key = []; value = [] }
+
+-- the last mark of each key
+abbrev pub marked : List Change → List Pair → List Pair
+marked [] marks = marks
+marked (c ∷ cs) marks = marked cs (put Hash (mark_in c) marks)
+
+-- a key is there by its mark, or else as it was
+abbrev pub told_there : (mark : Option (List ℕ)) → (was : Bool) → Bool
+told_there None was = was
+told_there (Some v) was = not (is_nil v)
+
+-- the number of records behind a change of a key that was there or not
+abbrev pub count_after : Change → (count : ℕ) → (there : Bool) → ℕ
+count_after (changes.Put p) count there = if there then count else count + 1
+count_after (changes.Drop k) count there = if there then count - 1 else count
+count_after changes.Clear count there = 0

@@ -2,6 +2,8 @@
 #![tactic(auto)]
 
 mod block;
+mod counts;
+mod links;
 mod open;
 mod plan;
 mod seek;

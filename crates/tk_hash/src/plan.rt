@@ -1,5 +1,5 @@
 //! What a group needs beside its changes: the links of its blocks, the new heads, and the count of records behind it.
-ghost use Rattle.std.specs.Prelude.{◌≡◌, ◌+◌, ◌*◌, ◌≤◌, ◌^◌, ◌++◌, ℕ, List, [], length, IfOk, IfSome, OnOk, Some};
+ghost use Rattle.std.specs.Prelude.{◌≡◌, ◌+◌, ◌*◌, ◌≤◌, ◌^◌, ◌++◌, ◌∷◌, ℕ, List, [], length, replicate, IfOk, IfSome, OnOk, Some};
 ghost use Rattle.std.specs.Option.{is_some};
 ghost use Rattle.tk_disk.specs.Crash.{Torn, Follows, LeavesOnly};
 ghost use Rattle.tk_disk.specs.Disk.{HasCause as HasDiskCause};
@@ -16,13 +16,16 @@ ghost use Rattle.tk_append.specs.Log.{blocks_of};
 ghost use Rattle.tk_append.specs.LogParts.{log_disk, log_head, log_end};
 ghost use Rattle.tk_append.specs.FileText.{text_with, IsFile};
 ghost use Rattle.tk_append.specs.Read.{OnlyReads};
-ghost use Rattle.tk_hash.specs.Plan.{with_heads, FitHeads};
+ghost use Rattle.tk_hash.specs.declared.plan.NewHeads.TheVariants.{Cleared};
+ghost use Rattle.tk_hash.specs.Plan.{with_new, with_heads, AllBelow, FitHeads, Puts};
 
+use crate::counts::count_changes;
+use crate::links::chain_changes;
 use std::alloc::Global;
 use tk_append::GroupLog;
 use tk_block::{LinkList, StaticHead};
 use tk_disk::{Disk, DiskError};
-use tk_model::ChangeList;
+use tk_model::{Change, ChangeList, NoMemory};
 use tk_store::StoreError;
 
 /// A bucket's newest block.
@@ -47,6 +50,21 @@ pub(crate) struct Plan {
     pub links: LinkList,
     pub heads: NewHeads,
     pub count: u64,
+}
+
+/// The plan of a clear.
+fn plan_clear(alloc: Global) -> Result<Plan, NoMemory>
+    ensures links { IfOk result (λ plan. plan.links ≡ 0 ∷ []) }
+    ensures heads { IfOk result (λ plan. plan.heads ≡ Cleared) }
+    ensures count { IfOk result (λ plan. plan.count ≡ 0) }
+{
+    let mut links = LinkList::new(alloc);
+    links.push(0)?;
+    Ok(Plan {
+        links,
+        heads: NewHeads::Cleared,
+        count: 0,
+    })
 }
 
 /// Plans a group that goes to the end of a file of so many records. The buffer holds a key while it is compared.
@@ -79,7 +97,66 @@ pub(crate) fn plan_changes<D: Disk>(
     ensures cause { HasCause (D.fault_count disk.old) (D.fault_count disk.new) result }
     ensures never { NeverFull result }
 {
-    Err(StoreError::NoMemory)
+    let changes = changes.as_slice();
+    if let [Change::Clear] = changes {
+        return Ok(plan_clear(alloc)?);
+    }
+    let chains = chain_changes(alloc, disk, head, end, changes)?;
+    let count = count_changes(alloc, disk, head, count, buffer, changes)?;
+    Ok(Plan {
+        links: chains.links,
+        heads: NewHeads::Renewed(chains.heads),
+        count,
+    })
+}
+
+/// Zero heads, as many as are written at once.
+static ZEROS: [u8; 1 << 16] = [0; 1 << 16];
+
+/// Writes each of these heads.
+fn put_renewed<D: Disk>(log: &mut GroupLog<D>, heads: &[NewHead]) -> Result<(), DiskError>
+    requires p { (log_head log.old).p ≤ 24 }
+    requires fit { AllBelow (2 ^ (log_head log.old).p) heads.now }
+    requires there { IfSome (D.image (log_disk log.old)) (λ f. base_of (log_head log.old).p ≤ length f) }
+    ensures written { (c : Closing) (old : List ℕ) (groups : List Group) → IfSome (D.image (log_disk log.old)) (λ f. f ≡ text_with (log_head log.old) c old groups → length old ≡ 2 ^ (log_head log.old).p
+        → OnOk result (D.image (log_disk log.new) ≡ Some (text_with (log_head log.old) c (with_new heads.now old) groups))) }
+    ensures puts { Puts D.image D.may_leave D.moment D.left_since D.taken_count log.old log.new }
+    ensures cause { HasDiskCause (D.fault_count (log_disk log.old)) (D.fault_count (log_disk log.new)) result }
+{
+    for head in heads {
+        log.set_cells(head.bucket, &head.place.to_be_bytes())?;
+    }
+    Ok(())
+}
+
+/// The number of buckets.
+fn number_of_buckets(p: u8) -> u64
+    requires { p ≤ 24 }
+    ensures { result ≡ 2 ^ p }
+{
+    1 << p
+}
+
+/// Writes that each bucket is empty, so many zero bytes at once.
+fn put_zeros<D: Disk>(log: &mut GroupLog<D>, zeros: &[u8]) -> Result<(), DiskError>
+    requires p { (log_head log.old).p ≤ 24 }
+    requires there { IfSome (D.image (log_disk log.old)) (λ f. base_of (log_head log.old).p ≤ length f) }
+    requires zeros { zeros.now ≡ replicate (length zeros.now) 0 }
+    requires some { 8 ≤ length zeros.now }
+    ensures written { (c : Closing) (old : List ℕ) (groups : List Group) → IfSome (D.image (log_disk log.old)) (λ f. f ≡ text_with (log_head log.old) c old groups → length old ≡ 2 ^ (log_head log.old).p
+        → OnOk result (D.image (log_disk log.new) ≡ Some (text_with (log_head log.old) c (replicate (length old) 0) groups))) }
+    ensures puts { Puts D.image D.may_leave D.moment D.left_since D.taken_count log.old log.new }
+    ensures cause { HasDiskCause (D.fault_count (log_disk log.old)) (D.fault_count (log_disk log.new)) result }
+{
+    let number = number_of_buckets(log.head().p);
+    let most = zeros.len() / 8;
+    let mut bucket = 0;
+    while bucket < number {
+        let cells = (number - bucket).min(most as u64);
+        log.set_cells(bucket, &zeros[..8 * cells as usize])?;
+        bucket += cells;
+    }
+    Ok(())
 }
 
 /// Writes the new heads.
@@ -98,7 +175,7 @@ pub(crate) fn put_heads<D: Disk>(log: &mut GroupLog<D>, heads: &NewHeads) -> Res
     ensures time { LeavesOnly D.moment D.left_since (log_disk log.old) (log_disk log.new) (λ c. (d : List ℕ) × D.may_leave (log_disk log.old) d × Torn 64 (8 * 2 ^ (log_head log.old).p) d c) }
 {
     match heads {
-        NewHeads::Cleared => log.set_cells(0, &[]),
-        NewHeads::Renewed(_) => log.set_cells(0, &[]),
+        NewHeads::Cleared => put_zeros(log, &ZEROS),
+        NewHeads::Renewed(new) => put_renewed(log, new),
     }
 }
