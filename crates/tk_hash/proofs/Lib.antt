@@ -1,5 +1,7 @@
 pub mod Chained
 pub mod Chains
 pub mod Buckets
+pub mod Fields
 pub mod InOrder
 pub mod Standing
+pub mod Still
