@@ -3,6 +3,7 @@
 
 mod open;
 mod plan;
+mod reading;
 mod seek;
 mod shelf;
 mod store;
