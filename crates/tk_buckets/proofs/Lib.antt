@@ -1,6 +1,7 @@
 pub mod Cuts
 pub mod Follows
 pub mod Links
+pub mod Moments
 pub mod Searches
 pub mod Unlinks
 pub mod Writes

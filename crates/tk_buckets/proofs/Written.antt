@@ -81,7 +81,7 @@ before_by_kind f false true at next found before = before
 before_by_kind f false false at next found before = before.1
 
 -- the blocks of a bucket, where all were written with their links
-pub chain_written : (h : StaticHead) (f : List ℕ) (bucket : ℕ) (before : List Placed) (bodies : List Body) (at : ℕ) (found : List ℕ) → length f ≤ 2 ^ 40 → base_of h.p ≤ at → AllFitBody bodies
+pub chain_written : (h : StaticHead) (f : List ℕ) (bucket : ℕ) (before : List Placed) (bodies : List Body) (at : ℕ) (found : List ℕ) → length f < 2 ^ 64 → base_of h.p ≤ at → AllFitBody bodies
     → drop at f ≡ texts (laid at bodies) (links_of h.p before (laid at bodies)) → IsLinked h f (newest h.p bucket 0 before) found → AllBefore f at found
     → IsLinked h f (newest h.p bucket 0 (before ++ laid at bodies)) (bucket_places h.p bucket found (laid at bodies))
 chain_written h f bucket before [] at found size behind fit is linked ended =

@@ -1,5 +1,5 @@
 -- A bucket as the list of the places of its blocks, the first of its chain first.
-use Rattle.std.specs.Prelude.{◌≡◌, ◌⊎◌, ℕ, ◌+◌, ◌*◌, ◌^◌, ◌≤◌, List, [], ◌∷◌, length, drop, Bool, Some, if◌then◌else◌, ◌==◌}
+use Rattle.std.specs.Prelude.{◌≡◌, ◌⊎◌, ℕ, ◌+◌, ◌*◌, ◌^◌, ◌<◌, ◌≤◌, List, [], ◌∷◌, length, drop, Bool, Some, if◌then◌else◌, ◌==◌}
 use Rattle.std.specs.List.{list_any}
 use Rattle.tk_block.specs.Number.{u64_in}
 use Rattle.tk_block.specs.Text.{head_at, base_of}
@@ -80,7 +80,7 @@ AllFitBody (b ∷ bs) = FitsBody b × AllFitBody bs
 
 -- the file has these blocks from the records' base on, each with its link, and the bucket's head is its newest block
 pub record IsWritten (h : StaticHead) (f : List ℕ) (bucket : ℕ) (bodies : List Body) : Type 0 where
-  pub size : length f ≤ 2 ^ 40
+  pub size : length f < 2 ^ 64
   pub heads : base_of h.p ≤ length f
   pub fit : AllFitBody bodies
   pub blocks : drop (base_of h.p) f ≡ texts (laid (base_of h.p) bodies) (links_of h.p [] (laid (base_of h.p) bodies))

@@ -1,7 +1,7 @@
 ghost use Rattle.std.specs.Prelude.{◌≡◌, ◌≢◌, ◌+◌, ◌*◌, ◌<◌, ◌≤◌, ◌^◌, ◌∷◌, ◌&&◌, ◌-◌, List, ℕ, length, true, nat_le, Some, None, IfOk, IfSome, OnOk, if◌then◌else◌};
 ghost use Rattle.std.specs.Option.{is_some, option_map};
 ghost use Rattle.std.specs.Int.{w64, to_be_bytes};
-ghost use Rattle.tk_disk.specs.Crash.{Torn, Follows, Within};
+ghost use Rattle.tk_disk.specs.Crash.{Torn, Follows, Within, LeavesOnly};
 ghost use Rattle.tk_disk.specs.Disk.{put_at, HasCause};
 ghost use Rattle.tk_block.specs.Number.{u64_in};
 ghost use Rattle.tk_block.specs.Text.{base_of};
@@ -31,6 +31,7 @@ pub fn insert<D: Disk>(
     ensures taken { D.taken_count disk.new ≡ D.taken_count disk.old }
     ensures cause { HasCause (D.fault_count disk.old) (D.fault_count disk.new) result }
     ensures crash { Follows (Torn (head_cell bucket) 8) (D.may_leave disk.old) (D.may_leave disk.new) }
+    ensures time { LeavesOnly D.moment D.left_since disk.old disk.new (λ c. (d : List ℕ) × D.may_leave disk.old d × Torn (head_cell bucket) 8 d c) }
 {
     disk.write_at(64 + 8 * bucket, &place.to_be_bytes())
 }

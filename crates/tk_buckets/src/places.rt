@@ -1,5 +1,5 @@
 ghost use Rattle.std.specs.Prelude.{◌≡◌, ◌+◌, ◌*◌, ◌<◌, ◌≤◌, ◌^◌, List, [], ℕ, length, IfOk, IfSome};
-ghost use Rattle.tk_disk.specs.Crash.{Within};
+ghost use Rattle.tk_disk.specs.Crash.{Within, Elapses};
 ghost use Rattle.tk_disk.specs.Disk.{HasFaultCause};
 ghost use Rattle.tk_store.specs.Store.{HasCause, NeverFull};
 ghost use Rattle.tk_block.specs.Number.{u64_in};
@@ -30,8 +30,10 @@ fn follow<D: Disk>(
     ensures all { (h : StaticHead) (places : List ℕ) → IfSome (D.image disk.old) (λ f. IsLinked h f first places → IfOk result (λ l. l ≡ places)) }
     ensures image { D.image disk.new ≡ D.image disk.old }
     ensures taken { (h : StaticHead) (places : List ℕ) → IfSome (D.image disk.old) (λ f. IsLinked h f first places → D.taken_count disk.new ≤ D.taken_count disk.old + 8 * length places) }
+    ensures more { D.taken_count disk.old ≤ D.taken_count disk.new }
     ensures cause { HasFaultCause (D.fault_count disk.old) (D.fault_count disk.new) result }
     ensures crash { Within (D.may_leave disk.old) (D.may_leave disk.new) }
+    ensures time { Elapses (D.moment disk.old) (D.moment disk.new) (D.left_since disk.old) (D.left_since disk.new) (D.may_leave disk.new) }
 {
     let mut places = PlaceList::new(alloc);
     let mut next = first;
@@ -54,8 +56,10 @@ fn places_of<D: Disk>(
     ensures all { (places : List ℕ) → IfSome (D.image disk.old) (λ f. IsChain head.now f bucket places → IfOk result (λ l. l ≡ places)) }
     ensures image { D.image disk.new ≡ D.image disk.old }
     ensures taken { (places : List ℕ) → IfSome (D.image disk.old) (λ f. IsChain head.now f bucket places → D.taken_count disk.new ≤ D.taken_count disk.old + 8 + 8 * length places) }
+    ensures more { D.taken_count disk.old ≤ D.taken_count disk.new }
     ensures cause { HasFaultCause (D.fault_count disk.old) (D.fault_count disk.new) result }
     ensures crash { Within (D.may_leave disk.old) (D.may_leave disk.new) }
+    ensures time { Elapses (D.moment disk.old) (D.moment disk.new) (D.left_since disk.old) (D.left_since disk.new) (D.may_leave disk.new) }
 {
     let len = disk.len()?;
     let first = number_at(disk, 64 + 8 * bucket)?;
@@ -77,9 +81,11 @@ pub fn chain<D: Disk>(
         → IfOk result (λ l. l ≡ bucket_places head.now.p bucket [] (laid (base_of head.now.p) bodies))) }
     ensures image { D.image disk.new ≡ D.image disk.old }
     ensures taken { (places : List ℕ) → IfSome (D.image disk.old) (λ f. IsChain head.now f bucket places → D.taken_count disk.new ≤ D.taken_count disk.old + 8 + 8 * length places) }
+    ensures more { D.taken_count disk.old ≤ D.taken_count disk.new }
     ensures cause { HasCause (D.fault_count disk.old) (D.fault_count disk.new) result }
     ensures never_full { NeverFull result }
     ensures crash { Within (D.may_leave disk.old) (D.may_leave disk.new) }
+    ensures time { Elapses (D.moment disk.old) (D.moment disk.new) (D.left_since disk.old) (D.left_since disk.new) (D.may_leave disk.new) }
 {
     match places_of(alloc, disk, head, bucket) {
         Ok(places) => Ok(places),

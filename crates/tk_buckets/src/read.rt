@@ -1,5 +1,5 @@
 ghost use Rattle.std.specs.Prelude.{◌≡◌, ◌+◌, ◌<◌, ◌≤◌, ◌^◌, length, IfOk, IfSome};
-ghost use Rattle.tk_disk.specs.Crash.{Within};
+ghost use Rattle.tk_disk.specs.Crash.{Within, Elapses};
 ghost use Rattle.tk_disk.specs.Disk.{HasCause};
 ghost use Rattle.tk_block.specs.Number.{u64_in};
 
@@ -12,9 +12,12 @@ pub(crate) fn number_at<D: Disk>(disk: &mut D, at: u64) -> Result<u64, DiskError
     ensures fits { IfOk result (λ n. n < 2 ^ 64) }
     ensures image { D.image disk.new ≡ D.image disk.old }
     ensures taken { D.taken_count disk.new ≤ D.taken_count disk.old + 8 }
+    ensures more { D.taken_count disk.old ≤ D.taken_count disk.new }
     ensures cause { HasCause (D.fault_count disk.old) (D.fault_count disk.new) result }
     ensures crash { Within (D.may_leave disk.old) (D.may_leave disk.new) }
+    ensures time { Elapses (D.moment disk.old) (D.moment disk.new) (D.left_since disk.old) (D.left_since disk.new) (D.may_leave disk.new) }
 {
+    let _ = disk.taken();
     let mut bytes = [0; 8];
     disk.read_at(at, &mut bytes)?;
     Ok(u64_at(&bytes, 0))

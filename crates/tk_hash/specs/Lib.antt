@@ -3,3 +3,4 @@ pub mod Hash
 pub mod Linked
 pub mod Plan
 pub mod Seek
+pub mod Shelf

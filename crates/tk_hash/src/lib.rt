@@ -6,6 +6,7 @@ mod counts;
 mod links;
 mod open;
 mod plan;
+mod reading;
 mod seek;
 mod shelf;
 mod store;
