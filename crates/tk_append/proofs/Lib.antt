@@ -3,6 +3,7 @@ pub mod ChainsSteps
 pub mod Checked
 pub mod ClosedFiles
 pub mod Countings
+pub mod Elapsed
 pub mod FreshSteps
 pub mod Groupings
 pub mod Joined

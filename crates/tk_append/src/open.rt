@@ -32,6 +32,7 @@ fn begin<D: Disk>(log: &mut GroupLog<D>, writable: bool) -> Result<(), DiskError
     ensures crash { Follows (Torn 32 32) (D.may_leave (log_disk log.old)) (D.may_leave (log_disk log.new)) }
     ensures crash_reads { writable ≡ false → Within (D.may_leave (log_disk log.old)) (D.may_leave (log_disk log.new)) }
     ensures durable { writable ≡ true → OnOk result (IfSome (D.image (log_disk log.new)) (λ f. Only f (D.may_leave (log_disk log.new)))) }
+    ensures time { LeavesOnly D.moment D.left_since (log_disk log.old) (log_disk log.new) (λ c. (d : List ℕ) × D.may_leave (log_disk log.old) d × Torn 32 32 d c) }
 {
     if writable { log.mark_open() } else { Ok(()) }
 }
