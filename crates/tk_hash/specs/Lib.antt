@@ -1,4 +1,5 @@
 pub mod Chain
 pub mod Hash
+pub mod HashLaws
 pub mod Plan
 pub mod Seek
