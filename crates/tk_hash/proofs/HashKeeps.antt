@@ -1,6 +1,6 @@
 -- A hash store that stands for groups goes on to stand for them.
-use Rattle.std.proofs.Common.{◌≡◌, ◌⊎◌, inl, inr, ℕ, ◌+◌, ◌<◌, ◌≤◌, ◌^◌, true, false, List, [], ◌∷◌, ◌++◌, length, take, drop, refl, sym, ◌∙◌, ap, subst, arith}
-use Rattle.std.specs.Prelude.{Option, Some, None, IfSome}
+use Rattle.std.proofs.Common.{◌≡◌, ◌⊎◌, inl, inr, ℕ, ◌+◌, ◌<◌, ◌≤◌, ◌^◌, Bool, true, false, List, [], ◌∷◌, ◌++◌, length, take, drop, refl, sym, ◌∙◌, ap, subst, arith}
+use Rattle.std.specs.Prelude.{Option, Some, None, IfSome, Result, Ok, Err, OnOk, OnErr, if◌then◌else◌}
 use Rattle.std.specs.Option.{option_map, is_some}
 use Rattle.std.proofs.lemmas.Option.{IfSome_then}
 use Rattle.std.specs.Vec.{with_items}
@@ -10,6 +10,9 @@ use Rattle.tk_model.specs.declared.record.Order.TheVariants.{Hash}
 use Rattle.tk_model.specs.declared.record.Pair.{Pair}
 use Rattle.tk_model.specs.declared.record.Group.{Group}
 use Rattle.tk_model.specs.Records.{replay}
+use Rattle.tk_disk.specs.declared.disk.DiskError.{DiskError}
+use Rattle.tk_store.specs.declared.error.StoreError.{StoreError}
+use Rattle.tk_store.specs.declared.error.StoreError.TheVariants as errors
 use Rattle.tk_store.specs.Store.{First, IsWhole}
 use Rattle.tk_block.specs.declared.head.StaticHead.{StaticHead}
 use Rattle.tk_block.specs.Text.{is_static}
@@ -21,7 +24,7 @@ use Rattle.tk_append.specs.Restored.{groups_in, IsKept, IsUntorn}
 use Rattle.tk_append.proofs.Restoring.{reads_back}
 use Rattle.tk_hash.specs.Seek.{IsShelf}
 use Rattle.tk_hash.specs.Hash.{groups_held, floor_of, RestoresTo, KeepsGroups, map_in, HashStands, HashSafe, HashStood}
-use Rattle.tk_hash.specs.HashLaws.{mapped, is_file, kept_held, records_are, front_more, weaker}
+use Rattle.tk_hash.specs.HashLaws.{mapped, is_file, kept_held, records_are, front_more, weaker, hash_safe_less}
 use Rattle.tk_hash.specs.declared.store.HashStore.{HashStore}
 use Rattle.tk_hash.specs.declared.shelf.Shelf.{Shelf}
 use Rattle.tk_hash.proofs.Keeping.{keeps_read}
@@ -38,6 +41,15 @@ carried_both None None told first second go = tt
 carried_both None (Some g) told first second go = absurd (cc)
 carried_both (Some f) None told first second go = tt
 carried_both (Some f) (Some g) told first second go = go first second
+
+pub least_if : (b : Bool) (hard len : ℕ) → hard ≤ len → hard ≤ (if b then len else hard)
+least_if true hard len le = le
+least_if false hard len le = omega arith
+
+-- a disk's call that was told as done was done
+pub done : {T P : Type 0} (answer : Result T DiskError) (result : Result T StoreError) (v : T) → OnErr answer (result ≡ Err errors.Fault) → result ≡ Ok v → OnOk answer P → P
+done (Ok u) result v err is p = p
+done (Err e) result v err is p = absurd (cc)
 
 -- all that is known of a file is known of it on another disk
 pub record SameFile {D : Type 0} (image : D → Option (List ℕ)) (s t : HashStore D) : Type 0 where
@@ -195,6 +207,33 @@ module _ {D : Type 0} (image : D → Option (List ℕ)) (may_leave : D → List 
                 | inr is ↦ weaker (groups_held first.held) (since ++ more) n hard c stood.least (front_more h (groups_held first.held) since more hard c st.header st.generation st.synced is legal whole)
               ]);
         }
+
+    -- what stood does so on, where what it stands for now is known
+    pub stood_as : (s t : HashStore D) (since_when n : ℕ) (first : First) (since more : List Group) (hard now : ℕ) → HashStood image may_leave moment left_since s since_when n first since hard → HashStands image may_leave t first (since ++ more) now → hard ≤ now
+        → log_head t.log ≡ log_head s.log → t.writable ≡ s.writable → is_some (image (log_disk t.log)) ≡ is_some (image (log_disk s.log)) → KeepsGroups may_leave moment left_since (log_head s.log) (groups_held first.held ++ take hard since) (log_disk s.log) (log_disk t.log)
+        → HashStood image may_leave moment left_since t since_when n first (since ++ more) now
+    stood_as s t since_when n first since more hard now st stands le head writable told keeps = record {
+      stands = stands;
+      safe = hash_safe_less image left_since t since_when first since more n n (omega arith) (safe_on s t since_when n first since hard st head writable told keeps);
+      least = omega (arith, st.least, le);
+      before = omega (arith, st.before, keeps.later);
+    }
+
+    pub safe_as : (s t : HashStore D) (since_when n : ℕ) (first : First) (since more : List Group) (hard : ℕ) → HashStood image may_leave moment left_since s since_when n first since hard
+        → log_head t.log ≡ log_head s.log → t.writable ≡ s.writable → is_some (image (log_disk t.log)) ≡ is_some (image (log_disk s.log)) → KeepsGroups may_leave moment left_since (log_head s.log) (groups_held first.held ++ take hard since) (log_disk s.log) (log_disk t.log)
+        → HashSafe image left_since t since_when first (since ++ more) n
+    safe_as s t since_when n first since more hard st head writable told keeps =
+        hash_safe_less image left_since t since_when first since more n n (omega arith) (safe_on s t since_when n first since hard st head writable told keeps)
+
+    pub stood_kept : (s t : HashStore D) (since_when n : ℕ) (first : First) (since : List Group) (hard now : ℕ) → HashStood image may_leave moment left_since s since_when n first since hard → HashStands image may_leave t first since now → hard ≤ now
+        → log_head t.log ≡ log_head s.log → t.writable ≡ s.writable → is_some (image (log_disk t.log)) ≡ is_some (image (log_disk s.log)) → KeepsGroups may_leave moment left_since (log_head s.log) (groups_held first.held ++ take hard since) (log_disk s.log) (log_disk t.log)
+        → HashStood image may_leave moment left_since t since_when n first since now
+    stood_kept s t since_when n first since hard now st stands le head writable told keeps = record {
+      stands = stands;
+      safe = safe_on s t since_when n first since hard st head writable told keeps;
+      least = omega (arith, st.least, le);
+      before = omega (arith, st.before, keeps.later);
+    }
 
     pub stood_on : (s t : HashStore D) (since_when n : ℕ) (first : First) (since : List Group) (hard : ℕ) → SameFile image s t → KeepsShelf image s t.shelf → OnlyReads may_leave moment left_since (log_disk s.log) (log_disk t.log)
         → HashStood image may_leave moment left_since s since_when n first since hard → HashStood image may_leave moment left_since t since_when n first since hard
