@@ -11,27 +11,28 @@ use Rattle.tk_model.specs.declared.record.Pair.{Pair}
 use Rattle.tk_model.specs.declared.record.Group.{Group}
 use Rattle.tk_model.specs.declared.record.Change.{Change}
 use Rattle.tk_model.specs.Records.{after, replay, AllFit, IsClearAlone}
-use Rattle.tk_store.specs.Store.{First, floor_after}
+use Rattle.tk_store.specs.Store.{First, Groups, floor_after}
 use Rattle.tk_store.proofs.Mem.{replay_more, floor_more}
 use Rattle.tk_block.specs.declared.head.StaticHead.{StaticHead}
 use Rattle.tk_block.specs.declared.closing.Closing.{Closing}
 use Rattle.tk_block.specs.Text.{base_of, is_static}
 use Rattle.tk_block.specs.Blocks.{group_bodies}
 use Rattle.tk_block.specs.Layout.{end_of, bodies_of, group_text}
-use Rattle.tk_append.specs.Log.{AreGroups}
+use Rattle.tk_block.proofs.Groups.{end_behind}
+use Rattle.tk_append.specs.Log.{AreGroups, closed_text}
 use Rattle.tk_append.specs.LogParts.{log_disk, log_head, log_end, with_closing}
 use Rattle.tk_append.specs.FileText.{text_of, IsFile}
 use Rattle.tk_append.specs.Restored.{IsKept}
 use Rattle.tk_append.proofs.LogSteps.{end_more}
 use Rattle.tk_append.proofs.Restoring.{file_kept}
-use Rattle.tk_hash.specs.Hash.{groups_held, floor_of, KeepsGroups, IsStaged, HashStands}
-use Rattle.tk_hash.specs.HashLaws.{groups_joined, is_file, all_legal, kept_held, file_of}
+use Rattle.tk_hash.specs.Hash.{groups_held, floor_of, opening, KeepsGroups, IsStaged, HashStands}
+use Rattle.tk_hash.specs.HashLaws.{groups_joined, length-text_of, is_file, all_legal, kept_held, file_of}
 use Rattle.tk_hash.specs.declared.store.HashStore.{HashStore}
 use Rattle.tk_hash.specs.declared.store.Staged.{Staged}
 use Rattle.tk_hash.specs.declared.shelf.Shelf.{Shelf}
 use Rattle.tk_hash.specs.Seek.{IsShelf}
-use Rattle.tk_hash.proofs.HashKeeps.{SameFile, KeepsShelf, carried, rested}
-use Rattle.tk_hash.proofs.HashTexts.{PutsHeads, file_more, closed_there}
+use Rattle.tk_hash.proofs.HashKeeps.{SameFile, KeepsShelf, carried, rested, shelf_same}
+use Rattle.tk_hash.proofs.HashTexts.{PutsHeads, file_more, closed_there, closed_now, closed_still}
 
 -- a header's p
 pub head_small : (h : StaticHead) → is_static h ≡ true → h.p ≤ 24
@@ -59,7 +60,56 @@ only_kept (Some f) h groups may file only = λ c left. subst (λ (x : List ℕ).
 take_whole : (since : List Group) → take (length since) since ≡ since
 take_whole since = take_all (length since) since (omega arith)
 
+-- the same parts make the same closing part
+pub closing_by : (a b count next : ℕ) (c : Closing) → c ≡ record { size = a; count = count; next = next } → a ≡ b → c ≡ record { size = b; count = count; next = next }
+closing_by a b count next c is same = rw (← same) is
+
+same_groups : (a b : List Group) → Groups a ≡ Groups b → a ≡ b
+same_groups a b is = cc
+
+-- what is known of a plan is known of the log that it was made for
+pub planned : (P : StaticHead → ℕ → Type 0) (groups : List Group) (o to : Option (List ℕ)) (h k : StaticHead) (e i : ℕ) → to ≡ o → k ≡ h → i ≡ e → IfSome o (λ f. IsFile h f groups → P h e) → IfSome to (λ f. IsFile k f groups → P k i)
+planned P groups o to h k e i a b d told =
+    subst (λ (x : Option (List ℕ)). IfSome x (λ f. IsFile k f groups → P k i)) (sym a)
+    (subst (λ (x : StaticHead). IfSome o (λ f. IsFile x f groups → P x i)) (sym b) (subst (λ (n : ℕ). IfSome o (λ f. IsFile h f groups → P h n)) (sym d) told))
+
 module _ {D : Type 0} (image : D → Option (List ℕ)) (may_leave : D → List ℕ → Type 0) where
+  module _ (s : HashStore D) (first : First) (since : List Group) (hard : ℕ) (st : HashStands image may_leave s first since hard) where
+    -- the file is as long as the log says, and has its heads
+    pub length_there : IfSome (image (log_disk s.log)) (λ f. length f ≡ log_end s.log)
+    length_there = IfSome_then (image (log_disk s.log)) st.there (λ f there. ap length there ∙ length-text_of (log_head s.log) s.closing (st.groups ++ since) ∙ sym st.end_is)
+
+    pub base_within : base_of (log_head s.log).p ≤ log_end s.log
+    base_within = omega (arith, st.end_is, end_behind (base_of (log_head s.log).p) (bodies_of (st.groups ++ since)))
+
+    pub header_there : IfSome (image (log_disk s.log)) (λ f. 64 ≤ length f)
+    header_there = IfSome_then (image (log_disk s.log)) length_there (λ f long. omega (arith, long, base_within))
+
+    -- what waits, and that close was called, is no part of what a store stands for
+    pub restaged : (o : Option Staged) (b : Bool) → HashStands image may_leave (record s { staged = o; closed = b }) first since hard
+    restaged o b = rested image may_leave s (record s { staged = o; closed = b }) first since hard hard st
+        (record { head = refl; end = refl; closing = refl; count = refl; next = refl; last = refl; writable = refl; buffer = refl; bytes = refl }) (shelf_same image s) st.synced st.kept
+
+    -- where its groups end
+    pub groups_end : log_end s.log ≡ end_of (base_of (log_head s.log).p) (bodies_of (groups_held first.held ++ since))
+    groups_end = subst (λ (gs : List Group). log_end s.log ≡ end_of (base_of (log_head s.log).p) (bodies_of (gs ++ since))) (sym (ap groups_held st.held)) st.end_is
+
+  -- the file that a store closes
+  pub closed_file : (s : HashStore D) (new : Option (List ℕ)) (next : ℕ) (groups since : List Group) (hard : ℕ) → HashStands image may_leave s (opening groups) since hard
+      → new ≡ option_map (with_closing (record { size = log_end s.log; count = s.count; next = next })) (image (log_disk s.log))
+      → IfSome (image (log_disk s.log)) (λ _. new ≡ Some (closed_text (log_head s.log) (groups ++ since) next))
+  closed_file s new next groups since hard st now =
+      subst (λ (gs : List Group). IfSome (image (log_disk s.log)) (λ _. new ≡ Some (closed_text (log_head s.log) (gs ++ since) next))) (sym (same_groups groups st.groups st.held))
+      (closed_now (image (log_disk s.log)) new (log_head s.log) s.closing (st.groups ++ since) (log_end s.log) s.count next st.there st.end_is st.count now)
+
+  -- the file that was only read
+  pub read_file : (s : HashStore D) (groups since : List Group) (hard : ℕ) → HashStands image may_leave s (opening groups) since hard → s.writable ≡ false
+      → IfSome (image (log_disk s.log)) (λ _. image (log_disk s.log) ≡ Some (closed_text (log_head s.log) groups s.next))
+  read_file s groups since hard st only =
+      let same : st.groups ++ since ≡ groups = ap (λ (l : List Group). st.groups ++ l) (st.no_group only) ∙ append-nil st.groups ∙ sym (same_groups groups st.groups st.held) in
+      subst (λ (gs : List Group). IfSome (image (log_disk s.log)) (λ _. image (log_disk s.log) ≡ Some (closed_text (log_head s.log) gs s.next))) same
+      (closed_still (image (log_disk s.log)) (image (log_disk s.log)) (log_head s.log) s.closing (st.groups ++ since) (log_end s.log) s.count s.next st.there (st.unmarked only) st.end_is st.count refl)
+
   -- the store after a group
   pub grown : (moment : D → ℕ) (left_since : D → ℕ → List ℕ → Type 0) (s t : HashStore D) (g : Staged) (n : ℕ) (cs : List Change) (mid : Option (List ℕ)) (first : First) (since : List Group) (hard : ℕ)
       → (is : IsStaged image s cs g) → AllFit cs → IsClearAlone cs → s.writable ≡ true → floor_of s.next s.last ≤ n → n < 2 ^ 64 → HashStands image may_leave s first since hard

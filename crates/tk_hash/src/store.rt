@@ -136,6 +136,7 @@ impl<D: Disk> HashStore<D> {
         ensures head { hash_head self.new ≡ hash_head self.old }
         ensures open { (hash_shown D.image self.new).closed ≡ (hash_shown D.image self.old).closed }
         ensures told { is_some (D.image (hash_disk self.new)) ≡ is_some (D.image (hash_disk self.old)) }
+        ensures time { D.moment (hash_disk self.old) ≤ D.moment (hash_disk self.new) }
         ensures taken { D.taken_count (hash_disk self.new) ≡ D.taken_count (hash_disk self.old) }
         ensures cause { HasCause (D.fault_count (hash_disk self.old)) (D.fault_count (hash_disk self.new)) result }
         ensures answers { OkOrFault result }
@@ -162,6 +163,7 @@ impl<D: Disk> HashStore<D> {
         ensures head { hash_head self.new ≡ hash_head self.old }
         ensures closed { (hash_shown D.image self.new).closed ≡ (hash_shown D.image self.old).closed }
         ensures told { is_some (D.image (hash_disk self.new)) ≡ is_some (D.image (hash_disk self.old)) }
+        ensures time { D.moment (hash_disk self.old) ≤ D.moment (hash_disk self.new) }
         ensures taken { D.taken_count (hash_disk self.new) ≡ D.taken_count (hash_disk self.old) }
         ensures cause { HasCause (D.fault_count (hash_disk self.old)) (D.fault_count (hash_disk self.new)) result }
         ensures answers { OkOrFault result }
