@@ -9,7 +9,7 @@ use Rattle.tk_block.specs.Text.{is_static}
 use Rattle.tk_block.specs.declared.head.StaticHead.{StaticHead}
 use Rattle.tk_block.proofs.Lengths.{length-file_text}
 use Rattle.tk_append.specs.Log.{AreGroups, AllHome, closed_text}
-use Rattle.tk_append.specs.LogParts.{log_head, log_end}
+use Rattle.tk_append.specs.LogParts.{log_head, log_end, Stands}
 use Rattle.tk_append.specs.Read.{HasRead}
 use Rattle.tk_append.specs.Counted.{HasCounted}
 use Rattle.tk_append.specs.declared.log.GroupLog.{GroupLog}

@@ -30,7 +30,7 @@ pub struct GroupLog<D: Disk> {
 
 impl<D: Disk> GroupLog<D> {
     /// The log of a file with this header, whose groups end there.
-    pub(crate) fn of(alloc: Global, disk: D, head: StaticHead, end: u64) -> GroupLog<D>
+    pub fn of(alloc: Global, disk: D, head: StaticHead, end: u64) -> GroupLog<D>
         ensures disk { log_disk result ≡ disk }
         ensures head { log_head result ≡ head }
         ensures end { log_end result ≡ end }

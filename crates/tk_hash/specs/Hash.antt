@@ -1,7 +1,7 @@
 -- A hash file as a store.
-use Rattle.std.specs.Prelude.{◌≡◌, ◌≢◌, ℕ, ◌+◌, ◌<◌, ◌≤◌, ◌^◌, min, true, false, List, [], ◌∷◌, ◌++◌, length, take, MatchOption, Option, Some, None, IfSome}
+use Rattle.std.specs.Prelude.{◌≡◌, ◌≢◌, ◌⊎◌, ℕ, ◌+◌, ◌<◌, ◌≤◌, ◌^◌, min, true, false, List, [], ◌∷◌, ◌++◌, length, take, MatchOption, Option, Some, None, IfSome}
 use Rattle.std.specs.Option.{option_map}
-use Rattle.tk_model.specs.Records.{after, replay, AllFit}
+use Rattle.tk_model.specs.Records.{after, replay, AllFit, IsClearAlone}
 use Rattle.tk_model.specs.declared.record.Order.TheVariants.{Hash}
 use Rattle.tk_model.specs.declared.record.Group.{Group}
 use Rattle.tk_model.specs.declared.record.Change.{Change}
@@ -12,6 +12,7 @@ use Rattle.tk_block.specs.Layout.{Placed, laid, links_of, end_of, bodies_of}
 use Rattle.tk_block.specs.declared.closing.Closing.{Closing}
 use Rattle.tk_block.specs.declared.head.StaticHead.{StaticHead}
 use Rattle.tk_append.specs.Chains.{HeadsAre}
+use Rattle.tk_append.specs.declared.log.GroupLog.{GroupLog}
 use Rattle.tk_append.specs.Log.{AreGroups, blocks_of}
 use Rattle.tk_append.specs.LogParts.{log_disk, log_head, log_end, IsReady}
 use Rattle.tk_append.specs.Restored.{groups_in, restored_groups, IsUntorn, IsKept}
@@ -43,6 +44,24 @@ pub record RestoresTo (first groups : List Group) (n : ℕ) (c : List ℕ) : Typ
   pub least : n ≤ count
   pub most : count ≤ length groups
   pub front : restored_groups c ≡ first ++ take count groups
+
+-- a log over the closed file of these groups, with this closing part
+pub record IsClosedLog {D : Type 0} (image : D → Option (List ℕ)) (log : GroupLog D) (closing : Closing) (groups : List Group) : Type 0 where
+  pub header : is_static (log_head log) ≡ true
+  pub generation : (log_head log).generation < 2 ^ 64
+  pub legal : AreGroups 0 closing.next groups
+  pub number : closing.next < 2 ^ 64
+  pub size : closing.size ≡ log_end log
+  pub fits : log_end log < 2 ^ 64
+  pub count : closing.count ≡ length (replay Hash groups [])
+  pub end_is : log_end log ≡ end_of (base_of (log_head log).p) (bodies_of groups)
+  pub text : IfSome (image (log_disk log)) (λ f. f ≡ text_of (log_head log) closing groups)
+
+-- from one disk to the next: where every image has these groups, every image goes on to have them
+pub record KeepsGroups {D : Type 0} (may_leave : D → List ℕ → Type 0) (moment : D → ℕ) (left_since : D → ℕ → List ℕ → Type 0) (h : StaticHead) (groups : List Group) (old new : D) : Type 0 where
+  pub later : moment old ≤ moment new
+  pub now : ((d : List ℕ) → may_leave old d → IsKept h groups d) → (c : List ℕ) → may_leave new c → IsKept h groups c
+  pub since : ((d : List ℕ) → may_leave old d → IsKept h groups d) → (t : ℕ) (c : List ℕ) → t ≤ moment old → left_since new t c → left_since old t c ⊎ IsKept h groups c
 
 module _ {D : Type 0} where
   -- the names that contracts call its parts
@@ -90,6 +109,7 @@ module _ {D : Type 0} where
 
   pub record HashPrepared (image : D → Option (List ℕ)) (s : HashStore D) (cs : List Change) : Type 0 where
     pub fit : AllFit cs
+    pub alone : IsClearAlone cs
     pub may : s.writable ≡ false → cs ≡ []
     pub staged : MatchOption s.staged (cs ≡ []) (IsStaged image s cs)
 

@@ -1,15 +1,18 @@
-ghost use Rattle.std.specs.Prelude.{◌≡◌, ◌+◌, ◌≤◌, ◌<◌, ◌^◌, ◌∷◌, [], ℕ, List, min, true, false, IfOk, IfErr, IfSome, Some};
-ghost use Rattle.std.specs.Option.{is_some};
-ghost use Rattle.tk_disk.specs.Crash.{Torn, LeavesOnly};
-ghost use Rattle.tk_disk.specs.Disk.{Rose};
+ghost use Rattle.std.specs.Prelude.{◌≡◌, ◌+◌, ◌≤◌, ◌<◌, ◌^◌, ◌∷◌, [], ℕ, List, length, min, true, false, IfOk, IfErr, IsOk, OnOk, IfSome, Some};
+ghost use Rattle.std.specs.Option.{is_some, option_map};
+ghost use Rattle.tk_disk.specs.Crash.{Torn, Only, LeavesOnly};
+ghost use Rattle.tk_disk.specs.Disk.{Rose, HasCause};
 ghost use Rattle.tk_model.specs.declared.record.Group.{Group};
 ghost use Rattle.tk_model.specs.declared.error.OpenError.TheVariants as OpenError;
 ghost use Rattle.tk_append.specs.Opening.{first_fault};
 ghost use Rattle.tk_append.specs.Log.{Tells, closed_text};
+ghost use Rattle.tk_append.specs.LogParts.{log_disk, log_head, log_end, with_closing, open_mark};
+ghost use Rattle.tk_append.specs.Read.{IsOutside};
+ghost use Rattle.tk_block.specs.Text.{is_static};
 
 use crate::store::HashStore;
 use std::alloc::Global;
-use tk_append::{CountedLog, read_counted, write_fresh};
+use tk_append::{CountedLog, GroupLog, read_counted, write_fresh};
 use tk_block::{Closing, StaticHead};
 use tk_disk::{Disk, DiskError};
 use tk_model::{NoMemory, OpenError, PairList, ShardOf, Unopened};
@@ -17,8 +20,65 @@ use tk_model::{NoMemory, OpenError, PairList, ShardOf, Unopened};
 /// Room for the longest key.
 const BUFFER: usize = 1 << 16;
 
+/// So many zero bytes.
+fn zeros(alloc: Global, len: usize) -> Result<Vec<u8>, NoMemory>
+    ensures { IfOk result (λ b. length b.items ≡ len) }
+{
+    let mut bytes = Vec::new(alloc);
+    bytes.resize(len, 0)?;
+    Ok(bytes)
+}
+
+/// Writes the file of a header and no records.
+fn write_empty<D: Disk>(alloc: Global, disk: &mut D, head: &StaticHead) -> Result<(), OpenError>
+    requires head { is_static head.now ≡ true }
+    requires empty { IfSome (D.image disk.old) (λ f. f ≡ []) }
+    ensures written { OnOk result (IfSome (D.image disk.old) (λ _. D.image disk.new ≡ Some (closed_text head.now [] 0))) }
+    ensures told { is_some (D.image disk.new) ≡ is_some (D.image disk.old) }
+    ensures only { IfErr result IsOutside }
+    ensures kept { OnOk result (D.fault_count disk.new ≡ D.fault_count disk.old) }
+    ensures fault { IfErr result (λ e. e ≡ OpenError.Fault → Rose (D.fault_count disk.old) (D.fault_count disk.new)) }
+    ensures later { D.fault_count disk.old ≤ D.fault_count disk.new }
+{
+    match write_fresh(alloc, disk, head, &PairList::new(alloc)) {
+        Ok(()) => Ok(()),
+        Err(DiskError::Fault) => Err(OpenError::Fault),
+        Err(DiskError::NoMemory) => Err(OpenError::NoMemory),
+    }
+}
+
+/// Makes it durable that a file that is to be written is open, and answers the closing part that then stands in it.
+fn begin<D: Disk>(
+    log: &mut GroupLog<D>,
+    closing: Closing,
+    writable: bool,
+) -> Result<Closing, DiskError>
+    requires there { IfSome (D.image (log_disk log.old)) (λ f. 64 ≤ length f) }
+    ensures head { log_head log.new ≡ log_head log.old }
+    ensures end { log_end log.new ≡ log_end log.old }
+    ensures reads { writable ≡ false → D.image (log_disk log.new) ≡ D.image (log_disk log.old) }
+    ensures same { writable ≡ false → IfOk result (λ c. c ≡ closing) }
+    ensures open { writable ≡ true → IfOk result (λ c. c ≡ open_mark) }
+    ensures marked { writable ≡ true → OnOk result (D.image (log_disk log.new) ≡ option_map (with_closing open_mark) (D.image (log_disk log.old))) }
+    ensures told { is_some (D.image (log_disk log.new)) ≡ is_some (D.image (log_disk log.old)) }
+    ensures cause { HasCause (D.fault_count (log_disk log.old)) (D.fault_count (log_disk log.new)) result }
+    ensures done { writable ≡ false → IsOk result }
+    ensures durable { writable ≡ true → OnOk result (IfSome (D.image (log_disk log.new)) (λ f. Only f (D.may_leave (log_disk log.new)))) }
+    ensures time { LeavesOnly D.moment D.left_since (log_disk log.old) (log_disk log.new) (λ c. (d : List ℕ) × D.may_leave (log_disk log.old) d × Torn 32 32 d c) }
+{
+    if !writable {
+        return Ok(closing);
+    }
+    log.mark_open()?;
+    Ok(Closing {
+        size: 0,
+        count: 0,
+        next: 0,
+    })
+}
+
 impl<D: Disk> HashStore<D> {
-    ghost use Rattle.tk_hash.specs.Hash.{hash_disk, hash_head, hash_nature, hash_shown, HashStands, opening};
+    ghost use Rattle.tk_hash.specs.Hash.{hash_disk, hash_head, hash_nature, hash_shown, HashStands, IsClosedLog, opening};
 
     /// Opens a hash file of kind 1, the file of this number in a set of so many. Where it is to be written, it is made
     /// durable that it is open. The disk is handed back where it is refused.
@@ -54,5 +114,109 @@ impl<D: Disk> HashStore<D> {
             next,
         };
         HashStore::of_log(alloc, log, closing, writable, limit)
+    }
+
+    /// Writes the fresh hash file of kind 1 to an empty disk, and makes it durable that it is open for writing.
+    pub fn create_file(
+        alloc: Global,
+        disk: D,
+        p: u8,
+        limit: u64,
+        shard: ShardOf,
+    ) -> Result<HashStore<D>, Unopened<D>>
+        requires p { p ≤ 24 }
+        requires shard { shard.index < shard.of }
+        requires empty { IfSome (D.image disk) (λ f. f ≡ []) }
+        ensures opened { IfOk result (λ s. HashStands D.image D.may_leave s (opening []) [] 0) }
+        ensures head { IfOk result (λ s. hash_head s ≡ record { kind = 1; version = 1; p = p; order = 0; generation = 0 }) }
+        ensures mode { IfOk result (λ s. ((hash_nature s).writable ≡ true) × ((hash_shown D.image s).closed ≡ false)) }
+        ensures next { IfOk result (λ s. (hash_nature s).next ≡ 0) }
+        ensures limit { IfOk result (λ s. (hash_nature s).limit ≡ min limit (2 ^ 40)) }
+        ensures told { IfOk result (λ s. is_some (D.image (hash_disk s)) ≡ is_some (D.image disk)) }
+        ensures only { IfErr result (λ u. IsOutside u.cause) }
+        ensures kept { IfOk result (λ s. D.fault_count (hash_disk s) ≡ D.fault_count disk) }
+        ensures fault { IfErr result (λ u. u.cause ≡ OpenError.Fault → Rose (D.fault_count disk) (D.fault_count u.disk)) }
+        ensures later { IfErr result (λ u. D.fault_count disk ≤ D.fault_count u.disk) }
+    {
+        let head = StaticHead {
+            kind: 1,
+            version: 1,
+            p,
+            order: 0,
+            generation: 0,
+        };
+        let mut disk = disk;
+        match write_empty(alloc, &mut disk, &head) {
+            Ok(()) => {
+                let size = 64 + (8 << p);
+                let log = GroupLog::of(alloc, disk, head, size);
+                let closing = Closing {
+                    size,
+                    count: 0,
+                    next: 0,
+                };
+                HashStore::of_log(alloc, log, closing, true, limit)
+            }
+            Err(cause) => Err(Unopened { cause, disk }),
+        }
+    }
+
+    /// The store over the log of a closed file. Where it is to be written, it is made durable that it is open.
+    fn of_log(
+        alloc: Global,
+        log: GroupLog<D>,
+        closing: Closing,
+        writable: bool,
+        limit: u64,
+    ) -> Result<HashStore<D>, Unopened<D>>
+        requires whole { (groups : List Group) × IsClosedLog D.image log closing groups }
+        ensures stands { (groups : List Group) → IsClosedLog D.image log closing groups → IfOk result (λ s. HashStands D.image D.may_leave s (opening groups) [] 0) }
+        ensures head { IfOk result (λ s. hash_head s ≡ log_head log) }
+        ensures mode { IfOk result (λ s. ((hash_nature s).writable ≡ writable) × ((hash_shown D.image s).closed ≡ false)) }
+        ensures next { IfOk result (λ s. (hash_nature s).next ≡ closing.next) }
+        ensures limit { IfOk result (λ s. (hash_nature s).limit ≡ min limit (2 ^ 40)) }
+        ensures reads { IfOk result (λ s. writable ≡ false → D.image (hash_disk s) ≡ D.image (log_disk log)) }
+        ensures told { IfOk result (λ s. is_some (D.image (hash_disk s)) ≡ is_some (D.image (log_disk log))) }
+        ensures back { IfErr result (λ u. (u.cause ≡ OpenError.Fault → ⊥) → D.image u.disk ≡ D.image (log_disk log)) }
+        ensures back_reads { writable ≡ false → IfErr result (λ u. D.image u.disk ≡ D.image (log_disk log)) }
+        ensures only { IfErr result (λ u. IsOutside u.cause) }
+        ensures kept { IfOk result (λ s. D.fault_count (hash_disk s) ≡ D.fault_count (log_disk log)) }
+        ensures fault { IfErr result (λ u. u.cause ≡ OpenError.Fault → Rose (D.fault_count (log_disk log)) (D.fault_count u.disk)) }
+        ensures later { IfErr result (λ u. D.fault_count (log_disk log) ≤ D.fault_count u.disk) }
+        ensures time { IfOk result (λ s. LeavesOnly D.moment D.left_since (log_disk log) (hash_disk s) (λ c. (d : List ℕ) × D.may_leave (log_disk log) d × Torn 32 32 d c)) }
+        ensures back_time { IfErr result (λ u. LeavesOnly D.moment D.left_since (log_disk log) u.disk (λ c. (d : List ℕ) × D.may_leave (log_disk log) d × Torn 32 32 d c)) }
+    {
+        let mut log = log;
+        let buffer = match zeros(alloc, BUFFER) {
+            Ok(buffer) => buffer,
+            Err(_) => {
+                return Err(Unopened {
+                    cause: OpenError::NoMemory,
+                    disk: log.into_disk(),
+                });
+            }
+        };
+        let count = closing.count;
+        let next = closing.next;
+        match begin(&mut log, closing, writable) {
+            Ok(closing) => Ok(HashStore {
+                alloc,
+                log,
+                closing,
+                count,
+                next,
+                last: None,
+                writable,
+                closed: false,
+                limit,
+                buffer,
+                shelf: None,
+                staged: None,
+            }),
+            Err(_) => Err(Unopened {
+                cause: OpenError::Fault,
+                disk: log.into_disk(),
+            }),
+        }
     }
 }

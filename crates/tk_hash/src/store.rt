@@ -1,8 +1,9 @@
 ghost use Rattle.std.specs.Prelude.{◌≡◌, ◌≢◌, ◌≤◌, ◌<◌, ◌+◌, ◌-◌, ◌^◌, ◌++◌, ◌∷◌, ◌==◌, ◌&&◌, not, nat_lt, ℕ, List, [], length, take, Option, IfOk, IfSome, OnOk, OnErr, Some, Ok, Err, true, false, if◌then◌else◌, sum_by};
 ghost use Rattle.std.specs.Option.{is_some};
-ghost use Rattle.tk_model.specs.Records.{AllFit};
+ghost use Rattle.tk_model.specs.Records.{AllFit, IsClearAlone};
 ghost use Rattle.tk_model.specs.declared.record.Group.{Group};
-ghost use Rattle.tk_store.specs.Store.{First, made, extent_of as change_extent, HasCause, NeverFull, OkOrFault, IsWhole, LeavesSafe};
+ghost use Rattle.tk_model.specs.declared.record.Change.{Change as Changed};
+ghost use Rattle.tk_store.specs.Store.{First, made, extent_of as change_extent, HasCause, NeverFull, OkOrFault, IsWhole, Keeps, KeepsSince, LeavesSafe};
 ghost use Rattle.tk_append.specs.Log.{closed_text};
 
 use crate::plan::{NewHeads, plan_changes, put_heads};
@@ -80,8 +81,25 @@ fn told<T>(answer: Result<T, DiskError>) -> Result<T, StoreError>
 }
 
 impl<D: Disk> HashStore<D> {
+    ghost use Rattle.tk_hash.specs.Hash.{hash_disk, hash_head, hash_nature, hash_shown, groups_held, IsStaged, HashStands, HashStood, KeepsGroups, opening};
+
     /// Makes a group of these changes ready.
-    fn stage(&mut self, changes: &ChangeList) -> Result<Staged, StoreError> {
+    fn stage(&mut self, changes: &ChangeList) -> Result<Staged, StoreError>
+        requires whole { IsWhole (HashStands D.image D.may_leave) self.old }
+        requires some { changes.now ≢ [] }
+        requires fit { AllFit changes.now }
+        requires alone { IsClearAlone changes.now }
+        requires end { (hash_shown D.image self.old).size + sum_by (change_extent 1) changes.now ≤ 2 ^ 40 }
+        ensures staged { IfOk result (IsStaged D.image self.new changes.now) }
+        ensures stands { Keeps (HashStands D.image D.may_leave) self.old self.new }
+        ensures since { KeepsSince (HashStood D.image D.may_leave D.moment D.left_since) self.old self.new }
+        ensures nature { hash_nature self.new ≡ hash_nature self.old }
+        ensures shown { hash_shown D.image self.new ≡ hash_shown D.image self.old }
+        ensures time { D.moment (hash_disk self.old) ≤ D.moment (hash_disk self.new) }
+        ensures taken { D.taken_count (hash_disk self.old) ≤ D.taken_count (hash_disk self.new) }
+        ensures cause { HasCause (D.fault_count (hash_disk self.old)) (D.fault_count (hash_disk self.new)) result }
+        ensures never { NeverFull result }
+    {
         let head = *self.log.head();
         let end = self.log.end();
         let plan = plan_changes(
@@ -101,7 +119,28 @@ impl<D: Disk> HashStore<D> {
     }
 
     /// Writes the group that was staged, under this number, and then the heads.
-    fn put_staged(&mut self, number: u64, staged: Staged) -> Result<(), StoreError> {
+    fn put_staged(&mut self, number: u64, staged: Staged) -> Result<(), StoreError>
+        requires whole { IsWhole (HashStands D.image D.may_leave) self.old }
+        requires staged { (changes : List Changed) × IsStaged D.image self.old changes staged }
+        requires writable { (hash_nature self.old).writable ≡ true }
+        requires number { (hash_shown D.image self.old).floor ≤ number }
+        ensures stands { (changes : List Changed) → IsStaged D.image self.old changes staged → AllFit changes → IsClearAlone changes
+            → (first : First) (since : List Group) (hard : ℕ) → HashStands D.image D.may_leave self.old first since hard
+            → OnOk result (HashStands D.image D.may_leave self.new first (since ++ record { number = number; changes = changes } ∷ []) hard) }
+        ensures kept { (first : First) (since : List Group) (hard : ℕ) → HashStands D.image D.may_leave self.old first since hard
+            → KeepsGroups D.may_leave D.moment D.left_since (hash_head self.old) (groups_held first.held ++ take hard since) (hash_disk self.old) (hash_disk self.new) }
+        ensures size { (changes : List Changed) → IsStaged D.image self.old changes staged
+            → OnOk result ((hash_shown D.image self.new).size ≡ (hash_shown D.image self.old).size + sum_by (change_extent 1) changes) }
+        ensures floor { OnOk result ((hash_shown D.image self.new).floor ≡ number + 1) }
+        ensures nature { hash_nature self.new ≡ hash_nature self.old }
+        ensures head { hash_head self.new ≡ hash_head self.old }
+        ensures open { (hash_shown D.image self.new).closed ≡ (hash_shown D.image self.old).closed }
+        ensures told { is_some (D.image (hash_disk self.new)) ≡ is_some (D.image (hash_disk self.old)) }
+        ensures time { D.moment (hash_disk self.old) ≤ D.moment (hash_disk self.new) }
+        ensures taken { D.taken_count (hash_disk self.new) ≡ D.taken_count (hash_disk self.old) }
+        ensures cause { HasCause (D.fault_count (hash_disk self.old)) (D.fault_count (hash_disk self.new)) result }
+        ensures answers { OkOrFault result }
+    {
         self.shelf = None;
         told(self.log.append(number))?;
         told(put_heads(&mut self.log, &staged.heads))?;
@@ -111,7 +150,24 @@ impl<D: Disk> HashStore<D> {
     }
 
     /// Makes it durable that the file is closed, with this next number.
-    fn end_file(&mut self, next: u64) -> Result<(), StoreError> {
+    fn end_file(&mut self, next: u64) -> Result<(), StoreError>
+        requires whole { IsWhole (HashStands D.image D.may_leave) self.old }
+        requires writable { (hash_nature self.old).writable ≡ true }
+        ensures stands { (first : First) (since : List Group) (hard : ℕ) → HashStands D.image D.may_leave self.old first since hard
+            → OnOk result (HashStands D.image D.may_leave self.new first since (length since)) }
+        ensures kept { (first : First) (since : List Group) (hard : ℕ) → HashStands D.image D.may_leave self.old first since hard
+            → KeepsGroups D.may_leave D.moment D.left_since (hash_head self.old) (groups_held first.held ++ take hard since) (hash_disk self.old) (hash_disk self.new) }
+        ensures file { (groups since : List Group) (hard : ℕ) → HashStands D.image D.may_leave self.old (opening groups) since hard
+            → OnOk result (IfSome (D.image (hash_disk self.old)) (λ _. D.image (hash_disk self.new) ≡ Some (closed_text (hash_head self.old) (groups ++ since) next))) }
+        ensures nature { hash_nature self.new ≡ hash_nature self.old }
+        ensures head { hash_head self.new ≡ hash_head self.old }
+        ensures closed { (hash_shown D.image self.new).closed ≡ (hash_shown D.image self.old).closed }
+        ensures told { is_some (D.image (hash_disk self.new)) ≡ is_some (D.image (hash_disk self.old)) }
+        ensures time { D.moment (hash_disk self.old) ≤ D.moment (hash_disk self.new) }
+        ensures taken { D.taken_count (hash_disk self.new) ≡ D.taken_count (hash_disk self.old) }
+        ensures cause { HasCause (D.fault_count (hash_disk self.old)) (D.fault_count (hash_disk self.new)) result }
+        ensures answers { OkOrFault result }
+    {
         told(self.log.close_log(self.count, next))?;
         self.closing = Closing {
             size: self.log.end(),
@@ -146,6 +202,7 @@ impl<D: Disk> HashStore<D> {
 impl<D: Disk> SeqStore for HashStore<D> {
     ghost use Rattle.std.specs.Prelude.{true, Bool};
     ghost use Rattle.tk_hash.specs.Hash.{hash_disk, hash_head, hash_nature, hash_shown, HashStands, HashPrepared, HashSafe, HashStood, opening};
+    ghost use Rattle.tk_hash.specs.HashLaws.{hash_replays, hash_rising, hash_held, hash_stood_now, hash_stood_less, hash_safe_less, hash_by_extents};
 
     ghost nature = { hash_nature };
 
@@ -166,6 +223,28 @@ impl<D: Disk> SeqStore for HashStore<D> {
     ghost fault_count = { λ s. D.fault_count (hash_disk s) };
 
     ghost taken_count = { λ s. D.taken_count (hash_disk s) };
+
+    ghost replays = { hash_replays D.image D.may_leave };
+
+    ghost rising = { hash_rising D.image D.may_leave };
+
+    ghost held = { hash_held D.image D.may_leave };
+
+    ghost numbered = { λ s first since hard st. st.floor };
+
+    ghost synced = { λ s first since hard st. st.synced };
+
+    ghost stood_now = { hash_stood_now D.image D.may_leave D.moment D.left_since D.only_now };
+
+    ghost stood_less = { hash_stood_less D.image D.left_since D.may_leave D.moment };
+
+    ghost stood_stands = { λ s t n first since hard st. st.stands };
+
+    ghost stood_safe = { λ s t n first since hard st. st.safe };
+
+    ghost safe_less = { hash_safe_less D.image D.left_since };
+
+    ghost by_extents = { hash_by_extents D.image };
 
     fn faults(&self) -> u64 {
         self.log.faults()

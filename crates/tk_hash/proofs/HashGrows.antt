@@ -1,0 +1,205 @@
+-- A hash store after a group, after a sync, and after another closing part.
+use Rattle.std.proofs.Common.{◌≡◌, ◌⊎◌, inl, inr, ℕ, ◌+◌, ◌<◌, ◌≤◌, ◌^◌, Bool, true, false, List, [], ◌∷◌, ◌++◌, length, take, drop, refl, sym, ◌∙◌, ap, subst, arith, length-append, append_assoc}
+use Rattle.std.specs.Prelude.{◌≢◌, Option, Some, None, IfSome, if◌then◌else◌}
+use Rattle.std.specs.Option.{option_map, is_some}
+use Rattle.std.proofs.lemmas.List.{append-nil, take_all, take-append-le}
+use Rattle.std.proofs.lemmas.Option.{IfSome_then}
+use Rattle.std.proofs.lemmas.Bool.Decides.{nat_tests}
+use Rattle.tk_disk.specs.Crash.{Within, Only}
+use Rattle.tk_model.specs.declared.record.Order.TheVariants.{Hash}
+use Rattle.tk_model.specs.declared.record.Pair.{Pair}
+use Rattle.tk_model.specs.declared.record.Group.{Group}
+use Rattle.tk_model.specs.declared.record.Change.{Change}
+use Rattle.tk_model.specs.Records.{after, replay, AllFit, IsClearAlone}
+use Rattle.tk_store.specs.Store.{First, Groups, floor_after}
+use Rattle.tk_store.proofs.Mem.{replay_more, floor_more}
+use Rattle.tk_block.specs.declared.head.StaticHead.{StaticHead}
+use Rattle.tk_block.specs.declared.closing.Closing.{Closing}
+use Rattle.tk_block.specs.Text.{base_of, is_static}
+use Rattle.tk_block.specs.Blocks.{group_bodies}
+use Rattle.tk_block.specs.Layout.{end_of, bodies_of, group_text}
+use Rattle.tk_block.proofs.Groups.{end_behind}
+use Rattle.tk_append.specs.Log.{AreGroups, closed_text}
+use Rattle.tk_append.specs.LogParts.{log_disk, log_head, log_end, with_closing}
+use Rattle.tk_append.specs.FileText.{text_of, IsFile}
+use Rattle.tk_append.specs.Restored.{IsKept}
+use Rattle.tk_append.proofs.LogSteps.{end_more}
+use Rattle.tk_append.proofs.Restoring.{file_kept}
+use Rattle.tk_hash.specs.Hash.{groups_held, floor_of, opening, KeepsGroups, IsStaged, HashStands}
+use Rattle.tk_hash.specs.HashLaws.{groups_joined, length-text_of, is_file, all_legal, kept_held, file_of}
+use Rattle.tk_hash.specs.declared.store.HashStore.{HashStore}
+use Rattle.tk_hash.specs.declared.store.Staged.{Staged}
+use Rattle.tk_hash.specs.declared.shelf.Shelf.{Shelf}
+use Rattle.tk_hash.specs.Seek.{IsShelf}
+use Rattle.tk_hash.proofs.HashKeeps.{SameFile, KeepsShelf, carried, rested, shelf_same}
+use Rattle.tk_hash.proofs.HashTexts.{PutsHeads, file_more, closed_there, closed_now, closed_still}
+
+-- a header's p
+pub head_small : (h : StaticHead) → is_static h ≡ true → h.p ≤ 24
+head_small h is = grind (arith, nat_tests)
+
+count_more : (o new : Option (List ℕ)) (P : List ℕ → Type 0) (A B : Type 0) → is_some new ≡ is_some o → IfSome o P → IfSome o (λ f. A) → IfSome o (λ f. P f → A → B) → IfSome new (λ f. B)
+count_more None None P A B told file was go = tt
+count_more None (Some g) P A B told file was go = absurd (cc)
+count_more (Some f) None P A B told file was go = tt
+count_more (Some f) (Some g) P A B told file was go = go file was
+
+shelf_none : (o : Option (List ℕ)) (h : StaticHead) (groups : List Group) (shelf : Option Shelf) → shelf ≡ None → IfSome o (λ f. IsShelf h groups shelf)
+shelf_none None h groups shelf is = tt
+shelf_none (Some f) h groups shelf is = subst (λ (x : Option Shelf). IsShelf h groups x) (sym is) tt
+
+still_some : (o : Option (List ℕ)) (g : List ℕ → List ℕ) → is_some (option_map g o) ≡ is_some o
+still_some None g = refl
+still_some (Some f) g = refl
+
+-- what a sync leaves
+only_kept : (o : Option (List ℕ)) (h : StaticHead) (groups : List Group) (may : List ℕ → Type 0) → IfSome o (λ f. IsFile h f groups) → IfSome o (λ f. Only f may) → IfSome o (λ f. (c : List ℕ) → may c → IsKept h groups c)
+only_kept None h groups may file only = tt
+only_kept (Some f) h groups may file only = λ c left. subst (λ (x : List ℕ). IsKept h groups x) (sym (only c left)) (file_kept h f groups file)
+
+take_whole : (since : List Group) → take (length since) since ≡ since
+take_whole since = take_all (length since) since (omega arith)
+
+-- the same parts make the same closing part
+pub closing_by : (a b count next : ℕ) (c : Closing) → c ≡ record { size = a; count = count; next = next } → a ≡ b → c ≡ record { size = b; count = count; next = next }
+closing_by a b count next c is same = rw (← same) is
+
+same_groups : (a b : List Group) → Groups a ≡ Groups b → a ≡ b
+same_groups a b is = cc
+
+-- what is known of a plan is known of the log that it was made for
+pub planned : (P : StaticHead → ℕ → Type 0) (groups : List Group) (o to : Option (List ℕ)) (h k : StaticHead) (e i : ℕ) → to ≡ o → k ≡ h → i ≡ e → IfSome o (λ f. IsFile h f groups → P h e) → IfSome to (λ f. IsFile k f groups → P k i)
+planned P groups o to h k e i a b d told =
+    subst (λ (x : Option (List ℕ)). IfSome x (λ f. IsFile k f groups → P k i)) (sym a)
+    (subst (λ (x : StaticHead). IfSome o (λ f. IsFile x f groups → P x i)) (sym b) (subst (λ (n : ℕ). IfSome o (λ f. IsFile h f groups → P h n)) (sym d) told))
+
+module _ {D : Type 0} (image : D → Option (List ℕ)) (may_leave : D → List ℕ → Type 0) where
+  module _ (s : HashStore D) (first : First) (since : List Group) (hard : ℕ) (st : HashStands image may_leave s first since hard) where
+    -- the file is as long as the log says, and has its heads
+    pub length_there : IfSome (image (log_disk s.log)) (λ f. length f ≡ log_end s.log)
+    length_there = IfSome_then (image (log_disk s.log)) st.there (λ f there. ap length there ∙ length-text_of (log_head s.log) s.closing (st.groups ++ since) ∙ sym st.end_is)
+
+    pub base_within : base_of (log_head s.log).p ≤ log_end s.log
+    base_within = omega (arith, st.end_is, end_behind (base_of (log_head s.log).p) (bodies_of (st.groups ++ since)))
+
+    pub header_there : IfSome (image (log_disk s.log)) (λ f. 64 ≤ length f)
+    header_there = IfSome_then (image (log_disk s.log)) length_there (λ f long. omega (arith, long, base_within))
+
+    -- what waits, and that close was called, is no part of what a store stands for
+    pub restaged : (o : Option Staged) (b : Bool) → HashStands image may_leave (record s { staged = o; closed = b }) first since hard
+    restaged o b = rested image may_leave s (record s { staged = o; closed = b }) first since hard hard st
+        (record { head = refl; end = refl; closing = refl; count = refl; next = refl; last = refl; writable = refl; buffer = refl; bytes = refl }) (shelf_same image s) st.synced st.kept
+
+    -- where its groups end
+    pub groups_end : log_end s.log ≡ end_of (base_of (log_head s.log).p) (bodies_of (groups_held first.held ++ since))
+    groups_end = subst (λ (gs : List Group). log_end s.log ≡ end_of (base_of (log_head s.log).p) (bodies_of (gs ++ since))) (sym (ap groups_held st.held)) st.end_is
+
+  -- the file that a store closes
+  pub closed_file : (s : HashStore D) (new : Option (List ℕ)) (next : ℕ) (groups since : List Group) (hard : ℕ) → HashStands image may_leave s (opening groups) since hard
+      → new ≡ option_map (with_closing (record { size = log_end s.log; count = s.count; next = next })) (image (log_disk s.log))
+      → IfSome (image (log_disk s.log)) (λ _. new ≡ Some (closed_text (log_head s.log) (groups ++ since) next))
+  closed_file s new next groups since hard st now =
+      subst (λ (gs : List Group). IfSome (image (log_disk s.log)) (λ _. new ≡ Some (closed_text (log_head s.log) (gs ++ since) next))) (sym (same_groups groups st.groups st.held))
+      (closed_now (image (log_disk s.log)) new (log_head s.log) s.closing (st.groups ++ since) (log_end s.log) s.count next st.there st.end_is st.count now)
+
+  -- the file that was only read
+  pub read_file : (s : HashStore D) (groups since : List Group) (hard : ℕ) → HashStands image may_leave s (opening groups) since hard → s.writable ≡ false
+      → IfSome (image (log_disk s.log)) (λ _. image (log_disk s.log) ≡ Some (closed_text (log_head s.log) groups s.next))
+  read_file s groups since hard st only =
+      let same : st.groups ++ since ≡ groups = ap (λ (l : List Group). st.groups ++ l) (st.no_group only) ∙ append-nil st.groups ∙ sym (same_groups groups st.groups st.held) in
+      subst (λ (gs : List Group). IfSome (image (log_disk s.log)) (λ _. image (log_disk s.log) ≡ Some (closed_text (log_head s.log) gs s.next))) same
+      (closed_still (image (log_disk s.log)) (image (log_disk s.log)) (log_head s.log) s.closing (st.groups ++ since) (log_end s.log) s.count s.next st.there (st.unmarked only) st.end_is st.count refl)
+
+  -- the store after a group
+  pub grown : (moment : D → ℕ) (left_since : D → ℕ → List ℕ → Type 0) (s t : HashStore D) (g : Staged) (n : ℕ) (cs : List Change) (mid : Option (List ℕ)) (first : First) (since : List Group) (hard : ℕ)
+      → (is : IsStaged image s cs g) → AllFit cs → IsClearAlone cs → s.writable ≡ true → floor_of s.next s.last ≤ n → n < 2 ^ 64 → HashStands image may_leave s first since hard
+      → log_head t.log ≡ log_head s.log → log_end t.log ≡ end_of (log_end s.log) (group_bodies n cs) → t.count ≡ g.count → t.last ≡ Some n → t.next ≡ s.next → t.writable ≡ s.writable → t.closing ≡ s.closing → t.buffer.items ≡ s.buffer.items → t.shelf ≡ None
+      → is_some (image (log_disk t.log)) ≡ is_some (image (log_disk s.log)) → mid ≡ option_map (λ f. f ++ group_text (record { number = n; changes = cs }) (log_end s.log) is.links) (image (log_disk s.log))
+      → PutsHeads mid (image (log_disk t.log)) (log_head s.log) g.heads
+      → KeepsGroups may_leave moment left_since (log_head s.log) (groups_held first.held ++ take hard since) (log_disk s.log) (log_disk t.log)
+      → HashStands image may_leave t first (since ++ record { number = n; changes = cs } ∷ []) hard
+  grown moment left_since s t g n cs mid first since hard is fits alone may above small st head end count last next writable closing buffer shelf told appended puts keeps =
+      let more : Group = record { number = n; changes = cs } in
+      let h : StaticHead = log_head s.log in
+      let o : Option (List ℕ) = image (log_disk s.log) in
+      let all : List Group = st.groups ++ since in
+      let joined : all ++ more ∷ [] ≡ st.groups ++ (since ++ more ∷ []) = append_assoc st.groups since (more ∷ []) in
+      let file = is_file image may_leave s first since hard st in
+      let floor : floor_of t.next t.last ≡ n + 1 = ap (λ (k : Option ℕ). floor_of t.next k) last in
+      let counts : IfSome (image (log_disk t.log)) (λ f. g.count ≡ length (after Hash cs (replay Hash all []))) = count_more o (image (log_disk t.log)) _ _ _ told file st.count (is.count_is all) in
+      let ends : end_of (log_end s.log) (group_bodies n cs) ≡ end_of (base_of h.p) (bodies_of (all ++ more ∷ [])) = ap (λ (k : ℕ). end_of k (group_bodies n cs)) st.end_is ∙ sym (end_more (base_of h.p) all more) in
+      let texts : IfSome (image (log_disk t.log)) (λ f. f ≡ text_of h s.closing (all ++ more ∷ [])) =
+      file_more o mid (image (log_disk t.log)) h s.closing all more (log_end s.log) is.links g.heads st.end_is told appended file st.there (is.links_are n all) (λ heads. is.heads_are n all heads) puts in
+      let kept : IfSome (image (log_disk t.log)) (λ f. (c : List ℕ) → may_leave (log_disk t.log) c → IsKept h (groups_held first.held ++ take hard since) c) =
+      carried o (image (log_disk t.log)) told (kept_held image may_leave s first since hard st may) keeps.now in
+      record {
+        groups = st.groups;
+        held = st.held;
+        records_first = st.records_first;
+        legal = subst (λ (k : ℕ). AreGroups 0 k st.groups) (sym next) st.legal;
+        later = subst (λ (k : ℕ). AreGroups k (floor_of t.next t.last) (since ++ more ∷ [])) (sym next)
+            (groups_joined s.next (floor_of s.next s.last) (floor_of t.next t.last) since (more ∷ []) st.later (above, is.some, fits, alone, omega (arith, floor)));
+        floor = floor ∙ sym (floor_more t.next since more);
+        top = omega (arith, floor, small);
+        synced = omega (arith, st.synced, length-append since (more ∷ []));
+        header = ap is_static head ∙ st.header;
+        generation = subst (λ (k : StaticHead). k.generation < 2 ^ 64) (sym head) st.generation;
+        end_is = end ∙ ends ∙ ap (λ (l : List Group). end_of (base_of h.p) (bodies_of l)) joined ∙ ap (λ (k : StaticHead). end_of (base_of k.p) (bodies_of (st.groups ++ (since ++ more ∷ [])))) (sym head);
+        end_fits = omega (arith, end, is.ends n);
+        buffer = subst (λ (l : List ℕ). 65536 ≤ length l) (sym buffer) st.buffer;
+        no_group = λ no. absurd (cc (no, writable, may));
+        there = subst (λ (k : StaticHead). IfSome (image (log_disk t.log)) (λ f. f ≡ text_of k t.closing (st.groups ++ (since ++ more ∷ [])))) (sym head)
+            (subst (λ (k : Closing). IfSome (image (log_disk t.log)) (λ f. f ≡ text_of h k (st.groups ++ (since ++ more ∷ [])))) (sym closing)
+            (subst (λ (l : List Group). IfSome (image (log_disk t.log)) (λ f. f ≡ text_of h s.closing l)) joined texts));
+        count = IfSome_then (image (log_disk t.log)) counts
+            (λ f counted. count ∙ counted ∙ ap (λ (m : List Pair). length m) (sym (replay_more Hash all more [])) ∙ ap (λ (l : List Group). length (replay Hash l [])) joined);
+        unmarked = λ no. absurd (cc (no, writable, may));
+        shelf = shelf_none (image (log_disk t.log)) (log_head t.log) (st.groups ++ (since ++ more ∷ [])) t.shelf shelf;
+        kept = λ _. subst (λ (k : StaticHead). IfSome (image (log_disk t.log)) (λ f. (c : List ℕ) → may_leave (log_disk t.log) c → IsKept k (st.groups ++ take hard (since ++ more ∷ [])) c)) (sym head)
+            (subst (λ (l : List Group). IfSome (image (log_disk t.log)) (λ f. (c : List ℕ) → may_leave (log_disk t.log) c → IsKept h (st.groups ++ l) c)) (sym (take-append-le hard since (more ∷ []) st.synced))
+            (subst (λ (l : List Group). IfSome (image (log_disk t.log)) (λ f. (c : List ℕ) → may_leave (log_disk t.log) c → IsKept h (l ++ take hard since) c)) (ap groups_held st.held) kept));
+      }
+
+  -- the store after a sync
+  pub synced : (s t : HashStore D) (b : Bool) (first : First) (since : List Group) (hard : ℕ) → SameFile image s t → KeepsShelf image s t.shelf → (b ≡ true → s.writable ≡ true → IfSome (image (log_disk s.log)) (λ f. Only f (may_leave (log_disk t.log))))
+      → Within (may_leave (log_disk s.log)) (may_leave (log_disk t.log)) → HashStands image may_leave s first since hard → HashStands image may_leave t first since (if b then length since else hard)
+  synced s t true first since hard same shelf only within st =
+      rested image may_leave s t first since hard (length since) st same shelf (omega arith)
+      (λ may. subst (λ (l : List Group). IfSome (image (log_disk s.log)) (λ f. (c : List ℕ) → may_leave (log_disk t.log) c → IsKept (log_head s.log) (st.groups ++ l) c)) (sym (take_whole since))
+      (only_kept (image (log_disk s.log)) (log_head s.log) (st.groups ++ since) (may_leave (log_disk t.log)) (is_file image may_leave s first since hard st) (only refl may)))
+  synced s t false first since hard same shelf only within st =
+      rested image may_leave s t first since hard hard st same shelf st.synced (λ may. IfSome_then (image (log_disk s.log)) (st.kept may) (λ f kept c left. kept c (within c left)))
+
+  -- the store after another closing part
+  pub marked : (s t : HashStore D) (new : Closing) (first : First) (since : List Group) (hard : ℕ) → s.writable ≡ true → HashStands image may_leave s first since hard → log_head t.log ≡ log_head s.log → log_end t.log ≡ log_end s.log → t.closing ≡ new
+      → t.count ≡ s.count → t.next ≡ s.next → t.last ≡ s.last → t.writable ≡ s.writable → t.buffer.items ≡ s.buffer.items → t.shelf ≡ s.shelf
+      → image (log_disk t.log) ≡ option_map (with_closing new) (image (log_disk s.log)) → IfSome (image (log_disk t.log)) (λ f. Only f (may_leave (log_disk t.log))) → HashStands image may_leave t first since (length since)
+  marked s t new first since hard may st head end closing count next last writable buffer shelf written only =
+      let h : StaticHead = log_head s.log in
+      let o : Option (List ℕ) = image (log_disk s.log) in
+      let all : List Group = st.groups ++ since in
+      let told : is_some (image (log_disk t.log)) ≡ is_some o = ap is_some written ∙ still_some o (with_closing new) in
+      let texts : IfSome (image (log_disk t.log)) (λ f. f ≡ text_of h new all) = closed_there o (image (log_disk t.log)) h s.closing new all st.there written in
+      let file : IfSome (image (log_disk t.log)) (λ f. IsFile h f all) =
+      IfSome_then (image (log_disk t.log)) texts (λ f there. file_of h new all (floor_of s.next s.last) (log_end s.log) f st.header st.generation (all_legal image may_leave s first since hard st) st.top st.end_is st.end_fits there) in
+      record {
+        groups = st.groups;
+        held = st.held;
+        records_first = st.records_first;
+        legal = rw next st.legal;
+        later = rw (next, last) st.later;
+        floor = rw (next, last) st.floor;
+        top = rw (next, last) st.top;
+        synced = omega arith;
+        header = rw head st.header;
+        generation = rw head st.generation;
+        end_is = rw (end, head) st.end_is;
+        end_fits = rw end st.end_fits;
+        buffer = rw buffer st.buffer;
+        no_group = rw writable st.no_group;
+        there = rw (head, closing) texts;
+        count = rw count (carried o (image (log_disk t.log)) told st.count (λ same. same));
+        unmarked = λ no. absurd (cc (no, writable, may));
+        shelf = rw (head, shelf) (carried o (image (log_disk t.log)) told st.shelf (λ same. same));
+        kept = λ _. rw (head, take_whole since) (only_kept (image (log_disk t.log)) h all (may_leave (log_disk t.log)) file only);
+      }

@@ -1,0 +1,245 @@
+-- A hash store that stands for groups goes on to stand for them.
+use Rattle.std.proofs.Common.{◌≡◌, ◌⊎◌, inl, inr, ℕ, ◌+◌, ◌<◌, ◌≤◌, ◌^◌, Bool, true, false, List, [], ◌∷◌, ◌++◌, length, take, drop, refl, sym, ◌∙◌, ap, subst, arith}
+use Rattle.std.specs.Prelude.{Option, Some, None, IfSome, Result, Ok, Err, OnOk, OnErr, if◌then◌else◌}
+use Rattle.std.specs.Option.{option_map, is_some}
+use Rattle.std.proofs.lemmas.Option.{IfSome_then}
+use Rattle.std.specs.Vec.{with_items}
+use Rattle.std.specs.declared.vec.Vec.{Vec}
+use Rattle.tk_disk.specs.Crash.{Within, Only}
+use Rattle.tk_model.specs.declared.record.Order.TheVariants.{Hash}
+use Rattle.tk_model.specs.declared.record.Pair.{Pair}
+use Rattle.tk_model.specs.declared.record.Group.{Group}
+use Rattle.tk_model.specs.Records.{replay}
+use Rattle.tk_disk.specs.declared.disk.DiskError.{DiskError}
+use Rattle.tk_store.specs.declared.error.StoreError.{StoreError}
+use Rattle.tk_store.specs.declared.error.StoreError.TheVariants as errors
+use Rattle.tk_store.specs.Store.{First, IsWhole}
+use Rattle.tk_block.specs.declared.head.StaticHead.{StaticHead}
+use Rattle.tk_block.specs.Text.{is_static}
+use Rattle.tk_append.specs.Log.{AreGroups}
+use Rattle.tk_append.specs.LogParts.{log_disk, log_head, log_end}
+use Rattle.tk_append.specs.FileText.{IsFile}
+use Rattle.tk_append.specs.Read.{OnlyReads}
+use Rattle.tk_append.specs.Restored.{groups_in, IsKept, IsUntorn}
+use Rattle.tk_append.proofs.Restoring.{reads_back}
+use Rattle.tk_hash.specs.Seek.{IsShelf}
+use Rattle.tk_hash.specs.Hash.{groups_held, floor_of, RestoresTo, KeepsGroups, map_in, HashStands, HashSafe, HashStood}
+use Rattle.tk_hash.specs.HashLaws.{mapped, is_file, kept_held, records_are, front_more, weaker, hash_safe_less}
+use Rattle.tk_hash.specs.declared.store.HashStore.{HashStore}
+use Rattle.tk_hash.specs.declared.shelf.Shelf.{Shelf}
+use Rattle.tk_hash.proofs.Keeping.{keeps_read}
+
+-- what is known where a disk tells its bytes, and doesn't speak of them, is known where it goes on to tell them
+pub carried : {A B : Type 0} (o p : Option (List ℕ)) → is_some p ≡ is_some o → IfSome o (λ f. A) → (A → B) → IfSome p (λ f. B)
+carried None None told holds go = tt
+carried None (Some g) told holds go = absurd (cc)
+carried (Some f) None told holds go = tt
+carried (Some f) (Some g) told holds go = go holds
+
+pub carried_both : {A B C : Type 0} (o p : Option (List ℕ)) → is_some p ≡ is_some o → IfSome o (λ f. A) → IfSome o (λ f. B) → (A → B → C) → IfSome p (λ f. C)
+carried_both None None told first second go = tt
+carried_both None (Some g) told first second go = absurd (cc)
+carried_both (Some f) None told first second go = tt
+carried_both (Some f) (Some g) told first second go = go first second
+
+pub least_if : (b : Bool) (hard len : ℕ) → hard ≤ len → hard ≤ (if b then len else hard)
+least_if true hard len le = le
+least_if false hard len le = omega arith
+
+-- a disk's call that was told as done was done
+pub done : {T P : Type 0} (answer : Result T DiskError) (result : Result T StoreError) (v : T) → OnErr answer (result ≡ Err errors.Fault) → result ≡ Ok v → OnOk answer P → P
+done (Ok u) result v err is p = p
+done (Err e) result v err is p = absurd (cc)
+
+-- all that is known of a file is known of it on another disk
+pub record SameFile {D : Type 0} (image : D → Option (List ℕ)) (s t : HashStore D) : Type 0 where
+  pub head : log_head t.log ≡ log_head s.log
+  pub end : log_end t.log ≡ log_end s.log
+  pub closing : t.closing ≡ s.closing
+  pub count : t.count ≡ s.count
+  pub next : t.next ≡ s.next
+  pub last : t.last ≡ s.last
+  pub writable : t.writable ≡ s.writable
+  pub buffer : length t.buffer.items ≡ length s.buffer.items
+  pub bytes : image (log_disk t.log) ≡ image (log_disk s.log)
+
+-- a store whose disk was lent and read
+pub same_read : {D : Type 0} (image : D → Option (List ℕ)) (s t : HashStore D) (lent : D) → lent ≡ log_disk s.log → log_head t.log ≡ log_head s.log → log_end t.log ≡ log_end s.log → t.closing ≡ s.closing → t.count ≡ s.count → t.next ≡ s.next → t.last ≡ s.last
+    → t.writable ≡ s.writable → length t.buffer.items ≡ length s.buffer.items → image (log_disk t.log) ≡ image lent → SameFile image s t
+same_read image s t lent at head end closing count next last writable buffer bytes = record {
+  head = head;
+  end = end;
+  closing = closing;
+  count = count;
+  next = next;
+  last = last;
+  writable = writable;
+  buffer = buffer;
+  bytes = bytes ∙ ap image at;
+}
+
+-- a shelf goes on to have its records
+abbrev pub KeepsShelf : {D : Type 0} (image : D → Option (List ℕ)) → HashStore D → Option Shelf → Type 0
+KeepsShelf image s o = (groups : List Group) → IfSome (image (log_disk s.log)) (λ f. IsFile (log_head s.log) f groups → IsShelf (log_head s.log) groups s.shelf → IsShelf (log_head s.log) groups o)
+
+shelf_always : (o : Option (List ℕ)) (P : List ℕ → Type 0) (Q R : Type 0) → (Q → R) → IfSome o (λ f. P f → Q → R)
+shelf_always None P Q R go = tt
+shelf_always (Some f) P Q R go = λ file was. go was
+
+pub shelf_same : {D : Type 0} (image : D → Option (List ℕ)) (s : HashStore D) → KeepsShelf image s s.shelf
+shelf_same image s groups = shelf_always (image (log_disk s.log)) (λ f. IsFile (log_head s.log) f groups) _ _ (λ was. was)
+
+-- a vector that was lent as a slice is as long as it was
+pub length-lent : {X Z : Type 0} (v : Vec X Z) (ws : List X) → length (with_items v ws).items ≡ length v.items
+length-lent v ws = sym (with_items v ws).ok.0 ∙ v.ok.0
+
+shelf_given : (o : Option (List ℕ)) (P : List ℕ → Type 0) (Q R : Type 0) → IfSome o (λ f. P f → Q → R) → IfSome o (λ f. Q) → IfSome o (λ f. P f → R)
+shelf_given None P Q R go was = tt
+shelf_given (Some f) P Q R go was = λ file. go file was
+
+shelf_on : (o : Option (List ℕ)) (P : List ℕ → Type 0) (Q R : Type 0) → IfSome o P → IfSome o (λ f. P f → Q → R) → IfSome o (λ f. Q) → IfSome o (λ f. R)
+shelf_on None P Q R file go was = tt
+shelf_on (Some f) P Q R file go was = go file was
+
+mapped_same : {A B : Type 0} (o : Option A) (g : A → B) (y : B) → IfSome o (λ x. g x ≡ y) → option_map g o ≡ option_map (λ x. y) o
+mapped_same None g y is = refl
+mapped_same (Some x) g y is = ap Some is
+
+told_file : (o : Option (List ℕ)) (h : StaticHead) (groups : List Group) (P : List Group → Type 0) → IfSome o (λ f. IsFile h f groups) → IfSome o (λ f. IsFile h f groups → P groups) → IfSome o (λ f. P (groups_in h f))
+told_file None h groups P file told = tt
+told_file (Some f) h groups P file told = subst P (sym (reads_back h f groups file)) (told file)
+
+module _ {D : Type 0} (image : D → Option (List ℕ)) (may_leave : D → List ℕ → Type 0) where
+  -- another hard number, and another disk that tells the same
+  pub rested : (s t : HashStore D) (first : First) (since : List Group) (hard now : ℕ) (st : HashStands image may_leave s first since hard) → SameFile image s t → KeepsShelf image s t.shelf → now ≤ length since
+      → (s.writable ≡ true → IfSome (image (log_disk s.log)) (λ f. (c : List ℕ) → may_leave (log_disk t.log) c → IsKept (log_head s.log) (st.groups ++ take now since) c)) → HashStands image may_leave t first since now
+  rested s t first since hard now st same shelf within kept = record {
+    groups = st.groups;
+    held = st.held;
+    records_first = st.records_first;
+    legal = rw same.next st.legal;
+    later = rw (same.next, same.last) st.later;
+    floor = rw (same.next, same.last) st.floor;
+    top = rw (same.next, same.last) st.top;
+    synced = within;
+    header = rw same.head st.header;
+    generation = rw same.head st.generation;
+    end_is = rw (same.end, same.head) st.end_is;
+    end_fits = rw same.end st.end_fits;
+    buffer = rw same.buffer st.buffer;
+    no_group = rw same.writable st.no_group;
+    there = rw (same.bytes, same.head, same.closing) st.there;
+    count = rw (same.bytes, same.count) st.count;
+    unmarked = rw (same.writable, same.bytes, same.closing, same.end, same.count, same.next) st.unmarked;
+    shelf = rw (same.bytes, same.head) (shelf_on (image (log_disk s.log)) (λ f. IsFile (log_head s.log) f (st.groups ++ since)) _ _ (is_file image may_leave s first since hard st) (shelf (st.groups ++ since)) st.shelf);
+    kept = rw (same.writable, same.bytes, same.head) kept;
+  }
+
+  -- a reading
+  pub read_on : (s t : HashStore D) (first : First) (since : List Group) (hard : ℕ) → SameFile image s t → KeepsShelf image s t.shelf → Within (may_leave (log_disk s.log)) (may_leave (log_disk t.log))
+      → HashStands image may_leave s first since hard → HashStands image may_leave t first since hard
+  read_on s t first since hard same shelf within st =
+      rested s t first since hard hard st same shelf st.synced (λ may. IfSome_then (image (log_disk s.log)) (st.kept may) (λ f kept c left. kept c (within c left)))
+
+  -- where the disk tells, the records are those of the groups
+  pub map_is : (s : HashStore D) (first : First) (since : List Group) (hard : ℕ) → HashStands image may_leave s first since hard → map_in image s ≡ option_map (λ f. replay Hash since first.records) (image (log_disk s.log))
+  map_is s first since hard st = mapped_same (image (log_disk s.log)) (λ f. replay Hash (groups_in (log_head s.log) f) []) (replay Hash since first.records)
+      (IfSome_then (image (log_disk s.log)) (is_file image may_leave s first since hard st) (λ f file. ap (λ (gs : List Group). replay Hash gs []) (reads_back (log_head s.log) f (st.groups ++ since) file) ∙ records_are image may_leave s first since hard st))
+
+  -- what was told of the groups of a file, of a disk that was lent
+  pub told_by : {B : Type 0} (s : HashStore D) (lent : D) (h : StaticHead) → IsWhole (HashStands image may_leave) s → lent ≡ log_disk s.log → h ≡ log_head s.log → (g : StaticHead → List Group → B) (P : D → B → Type 0)
+      → ((groups : List Group) → IfSome (image lent) (λ f. IsFile h f groups → P lent (g h groups)))
+      → IfSome (option_map (λ f. g (log_head s.log) (groups_in (log_head s.log) f)) (image (log_disk s.log))) (P (log_disk s.log))
+  told_by s lent h w at head g P told =
+      let st = w.3 in
+      let groups = st.groups ++ w.1 in
+      let here = subst (λ (d : D). IfSome (image d) (λ f. IsFile (log_head s.log) f groups → P d (g (log_head s.log) groups))) at
+          (subst (λ (k : StaticHead). IfSome (image lent) (λ f. IsFile k f groups → P lent (g k groups))) head (told groups)) in
+      mapped (image (log_disk s.log)) (λ f. g (log_head s.log) (groups_in (log_head s.log) f)) (P (log_disk s.log))
+      (told_file (image (log_disk s.log)) (log_head s.log) groups (λ gs. P (log_disk s.log) (g (log_head s.log) gs)) (is_file image may_leave s w.0 w.1 w.2 st) here)
+
+  -- the same, where it rests on the shelf
+  pub told_with : {B : Type 0} (s : HashStore D) (lent : D) (h : StaticHead) → IsWhole (HashStands image may_leave) s → lent ≡ log_disk s.log → h ≡ log_head s.log → (g : StaticHead → List Group → B) (P : B → Type 0)
+      → ((groups : List Group) → IfSome (image lent) (λ f. IsFile h f groups → IsShelf h groups s.shelf → P (g h groups)))
+      → IfSome (option_map (λ f. g (log_head s.log) (groups_in (log_head s.log) f)) (image (log_disk s.log))) P
+  told_with s lent h w at head g P told =
+      let st = w.3 in
+      let groups = st.groups ++ w.1 in
+      let here = subst (λ (d : D). IfSome (image d) (λ f. IsFile (log_head s.log) f groups → IsShelf (log_head s.log) groups s.shelf → P (g (log_head s.log) groups))) at
+          (subst (λ (k : StaticHead). IfSome (image lent) (λ f. IsFile k f groups → IsShelf k groups s.shelf → P (g k groups))) head (told groups)) in
+      mapped (image (log_disk s.log)) (λ f. g (log_head s.log) (groups_in (log_head s.log) f)) P
+      (told_file (image (log_disk s.log)) (log_head s.log) groups (λ gs. P (g (log_head s.log) gs)) (is_file image may_leave s w.0 w.1 w.2 st)
+      (shelf_given (image (log_disk s.log)) (λ f. IsFile (log_head s.log) f groups) _ _ here st.shelf))
+
+  pub shelf_at : (s : HashStore D) (o : Option Shelf) (lent : D) (h : StaticHead) → lent ≡ log_disk s.log → h ≡ log_head s.log → ((groups : List Group) → IfSome (image lent) (λ f. IsFile h f groups → IsShelf h groups s.shelf → IsShelf h groups o)) → KeepsShelf image s o
+  shelf_at s o lent h at head told groups =
+      subst (λ (d : D). IfSome (image d) (λ f. IsFile (log_head s.log) f groups → IsShelf (log_head s.log) groups s.shelf → IsShelf (log_head s.log) groups o)) at
+      (subst (λ (k : StaticHead). IfSome (image lent) (λ f. IsFile k f groups → IsShelf k groups s.shelf → IsShelf k groups o)) head (told groups))
+
+  pub counted : (s : HashStore D) → IsWhole (HashStands image may_leave) s → IfSome (map_in image s) (λ m. s.count ≡ length m)
+  counted s w =
+      let st = w.3 in
+      mapped (image (log_disk s.log)) (λ f. replay Hash (groups_in (log_head s.log) f) []) (λ m. s.count ≡ length m)
+      (told_file (image (log_disk s.log)) (log_head s.log) (st.groups ++ w.1) (λ gs. s.count ≡ length (replay Hash gs [])) (is_file image may_leave s w.0 w.1 w.2 st)
+      (IfSome_then (image (log_disk s.log)) st.count (λ f count file. count)))
+
+  module _ (moment : D → ℕ) (left_since : D → ℕ → List ℕ → Type 0) where
+    pub still_at : (lent old new : D) → lent ≡ old → OnlyReads may_leave moment left_since lent new → OnlyReads may_leave moment left_since old new
+    still_at lent old new at still = subst (λ (d : D). OnlyReads may_leave moment left_since d new) at still
+
+    -- what is safe stays so where the groups that were synchronised are kept
+    pub safe_on : (s t : HashStore D) (since_when n : ℕ) (first : First) (since : List Group) (hard : ℕ) → HashStood image may_leave moment left_since s since_when n first since hard → log_head t.log ≡ log_head s.log → t.writable ≡ s.writable
+        → is_some (image (log_disk t.log)) ≡ is_some (image (log_disk s.log)) → KeepsGroups may_leave moment left_since (log_head s.log) (groups_held first.held ++ take hard since) (log_disk s.log) (log_disk t.log)
+        → HashSafe image left_since t since_when first since n
+    safe_on s t since_when n first since hard stood head writable told keeps =
+        let st = stood.stands in
+        let h : StaticHead = log_head s.log in
+        let all : List Group → List Group = λ more. groups_held first.held ++ (since ++ more) in
+        record {
+          within = stood.safe.within;
+          each = λ may.
+              let can : s.writable ≡ true = sym writable ∙ may in
+              carried_both (image (log_disk s.log)) (image (log_disk t.log)) told (stood.safe.each can) (kept_held image may_leave s first since hard st can)
+              (λ each kept c more left legal untorn.
+              let whole : IsUntorn h (all more) c = subst (λ (x : StaticHead). IsUntorn x (all more) c) head untorn in
+              elim (keeps.since kept since_when c stood.before left) [
+                | inl past ↦ each c more past legal whole
+                | inr is ↦ weaker (groups_held first.held) (since ++ more) n hard c stood.least (front_more h (groups_held first.held) since more hard c st.header st.generation st.synced is legal whole)
+              ]);
+        }
+
+    -- what stood does so on, where what it stands for now is known
+    pub stood_as : (s t : HashStore D) (since_when n : ℕ) (first : First) (since more : List Group) (hard now : ℕ) → HashStood image may_leave moment left_since s since_when n first since hard → HashStands image may_leave t first (since ++ more) now → hard ≤ now
+        → log_head t.log ≡ log_head s.log → t.writable ≡ s.writable → is_some (image (log_disk t.log)) ≡ is_some (image (log_disk s.log)) → KeepsGroups may_leave moment left_since (log_head s.log) (groups_held first.held ++ take hard since) (log_disk s.log) (log_disk t.log)
+        → HashStood image may_leave moment left_since t since_when n first (since ++ more) now
+    stood_as s t since_when n first since more hard now st stands le head writable told keeps = record {
+      stands = stands;
+      safe = hash_safe_less image left_since t since_when first since more n n (omega arith) (safe_on s t since_when n first since hard st head writable told keeps);
+      least = omega (arith, st.least, le);
+      before = omega (arith, st.before, keeps.later);
+    }
+
+    pub safe_as : (s t : HashStore D) (since_when n : ℕ) (first : First) (since more : List Group) (hard : ℕ) → HashStood image may_leave moment left_since s since_when n first since hard
+        → log_head t.log ≡ log_head s.log → t.writable ≡ s.writable → is_some (image (log_disk t.log)) ≡ is_some (image (log_disk s.log)) → KeepsGroups may_leave moment left_since (log_head s.log) (groups_held first.held ++ take hard since) (log_disk s.log) (log_disk t.log)
+        → HashSafe image left_since t since_when first (since ++ more) n
+    safe_as s t since_when n first since more hard st head writable told keeps =
+        hash_safe_less image left_since t since_when first since more n n (omega arith) (safe_on s t since_when n first since hard st head writable told keeps)
+
+    pub stood_kept : (s t : HashStore D) (since_when n : ℕ) (first : First) (since : List Group) (hard now : ℕ) → HashStood image may_leave moment left_since s since_when n first since hard → HashStands image may_leave t first since now → hard ≤ now
+        → log_head t.log ≡ log_head s.log → t.writable ≡ s.writable → is_some (image (log_disk t.log)) ≡ is_some (image (log_disk s.log)) → KeepsGroups may_leave moment left_since (log_head s.log) (groups_held first.held ++ take hard since) (log_disk s.log) (log_disk t.log)
+        → HashStood image may_leave moment left_since t since_when n first since now
+    stood_kept s t since_when n first since hard now st stands le head writable told keeps = record {
+      stands = stands;
+      safe = safe_on s t since_when n first since hard st head writable told keeps;
+      least = omega (arith, st.least, le);
+      before = omega (arith, st.before, keeps.later);
+    }
+
+    pub stood_on : (s t : HashStore D) (since_when n : ℕ) (first : First) (since : List Group) (hard : ℕ) → SameFile image s t → KeepsShelf image s t.shelf → OnlyReads may_leave moment left_since (log_disk s.log) (log_disk t.log)
+        → HashStood image may_leave moment left_since s since_when n first since hard → HashStood image may_leave moment left_since t since_when n first since hard
+    stood_on s t since_when n first since hard same shelf still st = record {
+      stands = read_on s t first since hard same shelf still.crash st.stands;
+      safe = safe_on s t since_when n first since hard st same.head same.writable (ap is_some same.bytes) (keeps_read may_leave moment left_since (log_head s.log) (groups_held first.held ++ take hard since) (log_disk s.log) (log_disk t.log) still);
+      least = st.least;
+      before = omega (arith, st.before, still.time.later);
+    }

@@ -1,0 +1,32 @@
+use Rattle.std.proofs.Common.{rules, ◌≡◌, ◌+◌, ◌≤◌, ◌++◌, ℕ, List, length, take, inl, refl, sym, ◌∙◌, ap, subst, arith}
+use Rattle.std.specs.Prelude.{Option}
+use Rattle.std.specs.Option.{option_map}
+use Rattle.tk_model.specs.declared.record.Group.{Group}
+use Rattle.tk_append.specs.LogParts.{log_disk, log_head, log_end, with_closing}
+use Rattle.tk_hash.specs.Hash.{groups_held}
+use Rattle.tk_hash.proofs.Keeping.{keeps_torn}
+use Rattle.tk_hash.proofs.HashKeeps.{done}
+use Rattle.tk_hash.proofs.HashGrows.{marked, header_there, closed_file, closing_by}
+use Rattle.tk_hash.proofs.store.HashStore.end_file.Goals as goal
+
+pub returns-in_err-told-clause-kept : goal.returns-in_err-told-clause-kept
+returns-in_err-told-clause-kept g c first since hard st =
+    keeps_torn g.D.Disk.may_leave g.D.Disk.moment g.D.Disk.left_since (log_head c.args.self.now.log) (groups_held first.held ++ take hard since) _ _ 32 32 (inl (omega arith, omega arith)) c.close_log.ensures.crash c.close_log.ensures.time
+
+pub returns-clause-kept : goal.returns-clause-kept
+returns-clause-kept g c first since hard st =
+    keeps_torn g.D.Disk.may_leave g.D.Disk.moment g.D.Disk.left_since (log_head c.args.self.now.log) (groups_held first.held ++ take hard since) _ _ 32 32 (inl (omega arith, omega arith)) c.close_log.ensures.crash c.close_log.ensures.time
+
+pub returns-clause-stands : goal.returns-clause-stands
+returns-clause-stands g c first since hard st =
+    let s = c.args.self.now in
+    marked g.D.Disk.image g.D.Disk.may_leave s _ (record { size = log_end s.log; count = s.count; next = c.args.next }) first since hard c.requires.writable st c.close_log.ensures.head c.close_log.ensures.end
+    (closing_by c.end.result (log_end s.log) s.count c.args.next _ refl (c.end.ensures ∙ c.close_log.ensures.end)) refl refl refl refl refl refl
+    (done c.close_log.result c.told.result c.in_ok-told.field-0 c.told.ensures.err (search rules) c.close_log.ensures.written)
+    (done c.close_log.result c.told.result c.in_ok-told.field-0 c.told.ensures.err (search rules) c.close_log.ensures.durable)
+
+pub returns-clause-file : goal.returns-clause-file
+returns-clause-file g c groups since hard st =
+    let s = c.args.self.now in
+    closed_file g.D.Disk.image g.D.Disk.may_leave s (g.D.Disk.image (log_disk c.close_log.new.self)) c.args.next groups since hard st
+    (done c.close_log.result c.told.result c.in_ok-told.field-0 c.told.ensures.err (search rules) c.close_log.ensures.written)

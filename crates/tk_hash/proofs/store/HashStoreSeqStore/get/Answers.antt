@@ -1,0 +1,35 @@
+use Rattle.std.proofs.Common.{◌≡◌, ℕ, ◌+◌, ◌≤◌, List, [], refl, sym, ◌∙◌, ap, subst, length}
+use Rattle.std.specs.Prelude.{Option, IfOk}
+use Rattle.tk_model.specs.Records.{find, replay}
+use Rattle.tk_model.specs.declared.record.Order.TheVariants.{Hash}
+use Rattle.tk_store.specs.Store.{Gives}
+use Rattle.tk_append.specs.LogParts.{log_disk}
+use Rattle.tk_hash.specs.Chain.{cost_in}
+use Rattle.tk_hash.specs.declared.store.HashStore.{HashStore}
+use Rattle.tk_hash.proofs.HashKeeps.{SameFile, same_read, told_by, still_at, read_on, stood_on, shelf_same, length-lent}
+use Rattle.tk_hash.proofs.store.HashStoreSeqStore.get.Given as Given
+use Rattle.tk_hash.proofs.store.HashStoreSeqStore.get.Goals as goal
+
+pub returns-clause-value : goal.returns-clause-value
+returns-clause-value g c =
+    told_by g.D.Disk.image g.D.Disk.may_leave c.args.self.now c.disk.result.now c.head.result.now c.requires.whole c.disk.ensures.value c.head.ensures (λ h gs. replay Hash gs [])
+    (λ d m. IfOk c.get_value.result (Gives (find c.args.key.now m) c.args.out.now c.get_value.new.out)) c.get_value.ensures.value
+
+pub returns-clause-cost : goal.returns-clause-cost
+returns-clause-cost g c =
+    told_by g.D.Disk.image g.D.Disk.may_leave c.args.self.now c.disk.result.now c.head.result.now c.requires.whole c.disk.ensures.value c.head.ensures (λ h gs. cost_in h gs c.args.key.now)
+    (λ d most. g.D.Disk.taken_count c.get_value.new.disk ≤ g.D.Disk.taken_count d + most) c.get_value.ensures.cost
+
+pub returns-clause-stands : goal.returns-clause-stands
+returns-clause-stands g c first since hard st =
+    read_on g.D.Disk.image g.D.Disk.may_leave c.args.self.now _ first since hard
+    (same_read g.D.Disk.image c.args.self.now _ c.disk.result.now c.disk.ensures.value refl refl refl refl refl refl refl (length-lent c.args.self.now.buffer c.get_value.new.buffer) c.get_value.ensures.image)
+    (shelf_same g.D.Disk.image c.args.self.now)
+    (still_at g.D.Disk.image g.D.Disk.may_leave g.D.Disk.moment g.D.Disk.left_since _ _ _ c.disk.ensures.value c.get_value.ensures.still).crash st
+
+pub returns-clause-since : goal.returns-clause-since
+returns-clause-since g c t n first since hard st =
+    stood_on g.D.Disk.image g.D.Disk.may_leave g.D.Disk.moment g.D.Disk.left_since c.args.self.now _ t n first since hard
+    (same_read g.D.Disk.image c.args.self.now _ c.disk.result.now c.disk.ensures.value refl refl refl refl refl refl refl (length-lent c.args.self.now.buffer c.get_value.new.buffer) c.get_value.ensures.image)
+    (shelf_same g.D.Disk.image c.args.self.now)
+    (still_at g.D.Disk.image g.D.Disk.may_leave g.D.Disk.moment g.D.Disk.left_since _ _ _ c.disk.ensures.value c.get_value.ensures.still) st

@@ -1,0 +1,46 @@
+use Rattle.std.proofs.Common.{rules, ◌≡◌, ◌++◌, ℕ, List, [], length, refl, true, false}
+use Rattle.std.specs.Prelude.{Option, if◌then◌else◌}
+use Rattle.tk_model.specs.declared.record.Group.{Group}
+use Rattle.tk_store.specs.Store.{First}
+use Rattle.tk_append.specs.LogParts.{log_disk, log_head}
+use Rattle.tk_hash.specs.Hash.{groups_held, HashStands, KeepsGroups}
+use Rattle.tk_hash.proofs.Keeping.{keeps_within}
+use Rattle.tk_hash.proofs.HashKeeps.{done, least_if, shelf_same, stood_kept, safe_as}
+use Rattle.tk_hash.proofs.HashGrows.{synced}
+use Rattle.tk_hash.proofs.store.HashStoreSeqStore.sync.Given as Given
+use Rattle.tk_hash.proofs.store.HashStoreSeqStore.sync.Goals as goal
+
+pub returns-in_ok-told-clause-stands : goal.returns-in_ok-told-clause-stands
+returns-in_ok-told-clause-stands g c first since hard st =
+    let answer = c.told.ensures.err in
+    synced g.D.Disk.image g.D.Disk.may_leave c.args.self.now _ c.args.hard first since hard
+    (record {
+      head = c.sync_log.ensures.head;
+      end = c.sync_log.ensures.end;
+      closing = refl;
+      count = refl;
+      next = refl;
+      last = refl;
+      writable = refl;
+      buffer = refl;
+      bytes = done c.sync_log.result c.told.result c.in_ok-told.field-0 answer (search rules) c.sync_log.ensures.image;
+    })
+    (shelf_same g.D.Disk.image c.args.self.now)
+    (λ is may. done c.sync_log.result c.told.result c.in_ok-told.field-0 answer (search rules) (c.sync_log.ensures.durable is))
+    c.sync_log.ensures.crash st
+
+pub returns-in_ok-told-clause-since : goal.returns-in_ok-told-clause-since
+returns-in_ok-told-clause-since g c t n first since hard st =
+    stood_kept g.D.Disk.image g.D.Disk.may_leave g.D.Disk.moment g.D.Disk.left_since c.args.self.now _ t n first since hard _ st
+    (returns-in_ok-told-clause-stands g c first since hard st.stands) (least_if c.args.hard hard (length since) st.stands.synced) c.sync_log.ensures.head refl c.sync_log.ensures.told
+    (keeps_within g.D.Disk.may_leave g.D.Disk.moment g.D.Disk.left_since _ _ _ _ c.sync_log.ensures.crash c.sync_log.ensures.time)
+
+pub returns-in_ok-told-clause-safe : goal.returns-in_ok-told-clause-safe
+returns-in_ok-told-clause-safe g c t n first since hard st =
+    safe_as g.D.Disk.image g.D.Disk.may_leave g.D.Disk.moment g.D.Disk.left_since c.args.self.now _ t n first since [] hard st c.sync_log.ensures.head refl c.sync_log.ensures.told
+    (keeps_within g.D.Disk.may_leave g.D.Disk.moment g.D.Disk.left_since _ _ _ _ c.sync_log.ensures.crash c.sync_log.ensures.time)
+
+pub returns-in_err-told-clause-safe : goal.returns-in_err-told-clause-safe
+returns-in_err-told-clause-safe g c t n first since hard st =
+    safe_as g.D.Disk.image g.D.Disk.may_leave g.D.Disk.moment g.D.Disk.left_since c.args.self.now _ t n first since [] hard st c.sync_log.ensures.head refl c.sync_log.ensures.told
+    (keeps_within g.D.Disk.may_leave g.D.Disk.moment g.D.Disk.left_since _ _ _ _ c.sync_log.ensures.crash c.sync_log.ensures.time)

@@ -1,0 +1,169 @@
+-- The laws of hash files as stores.
+use Rattle.std.proofs.Common.{◌≡◌, ◌⊎◌, inl, inr, ℕ, ◌+◌, ◌<◌, ◌≤◌, ◌^◌, List, [], ◌∷◌, ◌++◌, length, take, drop, true, refl, sym, ◌∙◌, ap, subst, arith, length-append, length-take, length-drop, append_assoc}
+use Rattle.std.specs.Prelude.{Option, Some, None, IfSome}
+use Rattle.std.specs.Option.{option_map}
+use Rattle.std.proofs.lemmas.List.{take-append-drop, take-append-le, append-nil}
+use Rattle.std.proofs.lemmas.Option.{IfSome_then}
+use Rattle.std.proofs.Math.Seq.{take-append-add}
+use Rattle.tk_model.specs.declared.record.Order.{Order}
+use Rattle.tk_model.specs.declared.record.Order.TheVariants.{Hash}
+use Rattle.tk_model.specs.declared.record.Pair.{Pair}
+use Rattle.tk_model.specs.declared.record.Group.{Group}
+use Rattle.tk_model.specs.declared.record.Change.{Change}
+use Rattle.tk_model.specs.Records.{after, replay, Rising, AllHeld}
+use Rattle.tk_model.proofs.RecordLaws.{replay_rising}
+use Rattle.tk_model.proofs.Limits.{after_held}
+use Rattle.tk_store.specs.Store.{First, extents_need}
+use Rattle.tk_block.specs.declared.head.StaticHead.{StaticHead}
+use Rattle.tk_block.specs.declared.closing.Closing.{Closing}
+use Rattle.tk_block.specs.Text.{static_text, closing_text, base_of, is_static}
+use Rattle.tk_block.specs.Layout.{end_of, bodies_of, heads_text, links_of}
+use Rattle.tk_block.proofs.Lengths.{length-heads_text, length-texts}
+use Rattle.tk_block.proofs.Grammar.{length-static_text, length-closing_text}
+use Rattle.tk_append.specs.Log.{AreGroups, blocks_of}
+use Rattle.tk_append.specs.LogParts.{log_disk, log_head, log_end}
+use Rattle.tk_append.specs.FileText.{text_of, IsFile}
+use Rattle.tk_append.specs.Restored.{groups_in, groups_text, IsUntorn, IsKept}
+use Rattle.tk_append.proofs.Groupings.{groups_upto}
+use Rattle.tk_append.proofs.Restoring.{reads_back, restores}
+use Rattle.tk_hash.specs.declared.store.HashStore.{HashStore}
+use Rattle.tk_hash.specs.Hash.{groups_held, floor_of, RestoresTo, hash_nature, hash_shown, map_in, HashStands, HashSafe, HashStood}
+
+groups_from : (low least next : ℕ) (gs : List Group) → low ≤ least → AreGroups least next gs → AreGroups low next gs
+groups_from low least next [] le legal = omega (arith, le, legal)
+groups_from low least next (g ∷ gs) le legal = (omega (arith, le, legal.0), legal.1, legal.2, legal.3, legal.4)
+
+-- groups behind groups
+pub groups_joined : (least mid next : ℕ) (gs hs : List Group) → AreGroups least mid gs → AreGroups mid next hs → AreGroups least next (gs ++ hs)
+groups_joined least mid next [] hs first second = groups_from least mid next hs first second
+groups_joined least mid next (g ∷ gs) hs first second = (first.0, first.1, first.2, first.3, groups_joined (g.number + 1) mid next gs hs first.4 second)
+
+pub replay-append : (o : Order) (gs hs : List Group) (m : List Pair) → replay o (gs ++ hs) m ≡ replay o hs (replay o gs m)
+replay-append o [] hs m = refl
+replay-append o (g ∷ gs) hs m = replay-append o gs hs (after o g.changes m)
+
+replay_held : (o : Order) (least next : ℕ) (gs : List Group) (m : List Pair) → AreGroups least next gs → AllHeld m → AllHeld (replay o gs m)
+replay_held o least next [] m legal fit = fit
+replay_held o least next (g ∷ gs) m legal fit = replay_held o (g.number + 1) next gs (after o g.changes m) legal.4 (after_held o g.changes m legal.2 fit)
+
+pub length-front : (h : StaticHead) (c : Closing) → length (static_text h ++ closing_text c) ≡ 64
+length-front h c = omega (arith, length-append (static_text h) (closing_text c), length-static_text h, length-closing_text c)
+
+pub length-text_of : (h : StaticHead) (c : Closing) (groups : List Group) → length (text_of h c groups) ≡ end_of (base_of h.p) (bodies_of groups)
+length-text_of h c groups =
+    omega (arith, length-append (static_text h ++ closing_text c) (heads_text h.p (blocks_of h groups) ++ groups_text h groups), length-append (heads_text h.p (blocks_of h groups)) (groups_text h groups), length-front h c, length-heads_text h.p (blocks_of h groups), length-texts (base_of h.p) (bodies_of groups) (links_of h.p [] (blocks_of h groups)))
+
+-- the file with this closing part
+pub file_of : (h : StaticHead) (c : Closing) (groups : List Group) (next end : ℕ) (f : List ℕ) → is_static h ≡ true → h.generation < 2 ^ 64 → AreGroups 0 next groups → next ≤ 2 ^ 64 → end ≡ end_of (base_of h.p) (bodies_of groups) → end < 2 ^ 64
+    → f ≡ text_of h c groups → IsFile h f groups
+file_of h c groups next end f header generation legal top is fits there = record {
+  header = header;
+  generation = generation;
+  legal = groups_upto 0 next (2 ^ 64) groups legal top;
+  size = omega (arith, ap length there, length-text_of h c groups, is, fits);
+  closing = c;
+  text = there;
+}
+
+pub mapped : {A B : Type 0} (o : Option A) (g : A → B) (P : B → Type 0) → IfSome o (λ x. P (g x)) → IfSome (option_map g o) P
+mapped None g P holds = tt
+mapped (Some x) g P holds = holds
+
+-- at least fewer of them
+pub weaker : (first groups : List Group) (m n : ℕ) (c : List ℕ) → m ≤ n → RestoresTo first groups n c → RestoresTo first groups m c
+weaker first groups m n c le r = record { count = r.count; least = omega (arith, le, r.least); most = r.most; front = r.front }
+
+take_both : (n k : ℕ) (gs : List Group) → n ≤ length gs → take n gs ++ take k (drop n gs) ≡ take (n + k) gs
+take_both n k gs le =
+    let len : length (take n gs) ≡ n = omega (arith, length-take n gs) in
+    sym (take-append-add (take n gs) (drop n gs) k) ∙ ap (λ (m : ℕ). take (m + k) (take n gs ++ drop n gs)) len ∙ ap (λ (l : List Group). take (n + k) l) (take-append-drop n gs)
+
+-- an untorn image that kept some of the groups restores to at least these
+pub front_of : (h : StaticHead) (first gs : List Group) (n : ℕ) (c : List ℕ) → is_static h ≡ true → h.generation < 2 ^ 64 → n ≤ length gs → AreGroups 0 (2 ^ 64) (first ++ gs) → IsKept h (first ++ take n gs) c → IsUntorn h (first ++ gs) c → RestoresTo first gs n c
+front_of h first gs n c header generation le legal kept untorn =
+    let whole : (first ++ take n gs) ++ drop n gs ≡ first ++ gs = append_assoc first (take n gs) (drop n gs) ∙ ap (λ (l : List Group). first ++ l) (take-append-drop n gs) in
+    let r = restores h (first ++ take n gs) (drop n gs) (2 ^ 64) c header generation (subst (λ (l : List Group). AreGroups 0 (2 ^ 64) l) (sym whole) legal) (omega arith) kept
+        (subst (λ (l : List Group). IsUntorn h l c) (sym whole) untorn) in
+    record {
+      count = n + r.0;
+      least = omega arith;
+      most = omega (arith, r.1, length-drop n gs, le);
+      front = r.2 ∙ append_assoc first (take n gs) (take r.0 (drop n gs)) ∙ ap (λ (l : List Group). first ++ l) (take_both n r.0 gs le);
+    }
+
+-- the same of groups behind which more are written
+pub front_more : (h : StaticHead) (first since more : List Group) (n : ℕ) (c : List ℕ) → is_static h ≡ true → h.generation < 2 ^ 64 → n ≤ length since → IsKept h (first ++ take n since) c
+    → AreGroups 0 (2 ^ 64) (first ++ (since ++ more)) → IsUntorn h (first ++ (since ++ more)) c → RestoresTo first (since ++ more) n c
+front_more h first since more n c header generation le kept legal untorn =
+    front_of h first (since ++ more) n c header generation (omega (arith, le, length-append since more)) legal
+    (subst (λ (l : List Group). IsKept h (first ++ l) c) (sym (take-append-le n since more le)) kept) untorn
+
+less_each : (o : Option (List ℕ)) (left : List ℕ → Type 0) (h : StaticHead) (first since more : List Group) (m n : ℕ) → m ≤ n
+    → IfSome o (λ f. (c : List ℕ) (more : List Group) → left c → AreGroups 0 (2 ^ 64) (first ++ (since ++ more)) → IsUntorn h (first ++ (since ++ more)) c → RestoresTo first (since ++ more) n c)
+    → IfSome o (λ f. (c : List ℕ) (rest : List Group) → left c → AreGroups 0 (2 ^ 64) (first ++ ((since ++ more) ++ rest)) → IsUntorn h (first ++ ((since ++ more) ++ rest)) c → RestoresTo first ((since ++ more) ++ rest) m c)
+less_each o left h first since more m n le each = IfSome_then o each (λ f each c rest l legal u.
+    let joined : (since ++ more) ++ rest ≡ since ++ (more ++ rest) = append_assoc since more rest in
+    subst (λ (l : List Group). RestoresTo first l m c) (sym joined)
+    (weaker first (since ++ (more ++ rest)) m n c le (each c (more ++ rest) l (subst (λ (l : List Group). AreGroups 0 (2 ^ 64) (first ++ l)) joined legal) (subst (λ (l : List Group). IsUntorn h (first ++ l) c) joined u))))
+
+module _ {D : Type 0} (image : D → Option (List ℕ)) where
+  module _ (may_leave : D → List ℕ → Type 0) where
+    module _ (s : HashStore D) (first : First) (since : List Group) (hard : ℕ) (st : HashStands image may_leave s first since hard) where
+      pub all_legal : AreGroups 0 (floor_of s.next s.last) (st.groups ++ since)
+      all_legal = groups_joined 0 s.next (floor_of s.next s.last) st.groups since st.legal st.later
+
+      pub is_file : IfSome (image (log_disk s.log)) (λ f. IsFile (log_head s.log) f (st.groups ++ since))
+      is_file = IfSome_then (image (log_disk s.log)) st.there (λ f there. file_of (log_head s.log) s.closing (st.groups ++ since) (floor_of s.next s.last) (log_end s.log) f st.header st.generation all_legal st.top st.end_is st.end_fits there)
+
+      pub records_are : replay Hash (st.groups ++ since) [] ≡ replay Hash since first.records
+      records_are = replay-append Hash st.groups since [] ∙ ap (λ (m : List Pair). replay Hash since m) (sym st.records_first)
+
+      pub kept_held : s.writable ≡ true → IfSome (image (log_disk s.log)) (λ f. (c : List ℕ) → may_leave (log_disk s.log) c → IsKept (log_head s.log) (groups_held first.held ++ take hard since) c)
+      kept_held may = subst (λ (gs : List Group). IfSome (image (log_disk s.log)) (λ f. (c : List ℕ) → may_leave (log_disk s.log) c → IsKept (log_head s.log) (gs ++ take hard since) c)) (sym (ap groups_held st.held)) (st.kept may)
+
+    pub hash_replays : (s : HashStore D) (first : First) (since : List Group) (hard : ℕ) → HashStands image may_leave s first since hard → IfSome (map_in image s) (λ m. m ≡ replay Hash since first.records)
+    hash_replays s first since hard st = mapped (image (log_disk s.log)) (λ f. replay Hash (groups_in (log_head s.log) f) []) (λ m. m ≡ replay Hash since first.records)
+        (IfSome_then (image (log_disk s.log)) (is_file s first since hard st) (λ f file. ap (λ (gs : List Group). replay Hash gs []) (reads_back (log_head s.log) f (st.groups ++ since) file) ∙ records_are s first since hard st))
+
+    pub hash_rising : (s : HashStore D) (first : First) (since : List Group) (hard : ℕ) → HashStands image may_leave s first since hard → Rising Hash first.records
+    hash_rising s first since hard st = subst (λ (m : List Pair). Rising Hash m) (sym st.records_first) (replay_rising Hash st.groups [] tt)
+
+    pub hash_held : (s : HashStore D) (first : First) (since : List Group) (hard : ℕ) → HashStands image may_leave s first since hard → IfSome (map_in image s) AllHeld
+    hash_held s first since hard st = IfSome_then (map_in image s) (hash_replays s first since hard st)
+        (λ m is. subst AllHeld (sym (is ∙ sym (records_are s first since hard st))) (replay_held Hash 0 (floor_of s.next s.last) (st.groups ++ since) [] (all_legal s first since hard st) tt))
+
+    module _ (moment : D → ℕ) (left_since : D → ℕ → List ℕ → Type 0) where
+      pub hash_stood_now : ((d : D) (c : List ℕ) → left_since d (moment d) c → may_leave d c) → (s : HashStore D) (first : First) (since : List Group) (hard : ℕ) → HashStands image may_leave s first since hard
+          → HashStood image may_leave moment left_since s (moment (log_disk s.log)) hard first since hard
+      hash_stood_now only s first since hard st = record {
+        stands = st;
+        safe = record {
+          within = st.synced;
+          each = λ may. IfSome_then (image (log_disk s.log)) (kept_held s first since hard st may)
+              (λ f kept c more left legal untorn. front_more (log_head s.log) (groups_held first.held) since more hard c st.header st.generation st.synced (kept c (only (log_disk s.log) c left)) legal untorn);
+        };
+        least = omega arith;
+        before = omega arith;
+      }
+
+  module _ (left_since : D → ℕ → List ℕ → Type 0) where
+    pub hash_safe_less : (s : HashStore D) (t : ℕ) (first : First) (since more : List Group) (m n : ℕ) → m ≤ n → HashSafe image left_since s t first since n → HashSafe image left_since s t first (since ++ more) m
+    hash_safe_less s t first since more m n le safe = record {
+      within = omega (arith, le, safe.within, length-append since more);
+      each = λ may. less_each (image (log_disk s.log)) (left_since (log_disk s.log) t) (log_head s.log) (groups_held first.held) since more m n le (safe.each may);
+    }
+
+    pub hash_same_safe : (s : HashStore D) (t : ℕ) (first : First) (since : List Group) (m n : ℕ) → m ≤ n → HashSafe image left_since s t first since n → HashSafe image left_since s t first since m
+    hash_same_safe s t first since m n le safe = subst (λ (l : List Group). HashSafe image left_since s t first l m) (append-nil since) (hash_safe_less s t first since [] m n le safe)
+
+    pub hash_stood_less : (may_leave : D → List ℕ → Type 0) (moment : D → ℕ) (s : HashStore D) (t m n : ℕ) (first : First) (since : List Group) (hard : ℕ) → m ≤ n → HashStood image may_leave moment left_since s t n first since hard
+        → HashStood image may_leave moment left_since s t m first since hard
+    hash_stood_less may_leave moment s t m n first since hard le st = record {
+      stands = st.stands;
+      safe = hash_same_safe s t first since m n le st.safe;
+      least = omega (arith, le, st.least);
+      before = st.before;
+    }
+
+  pub hash_by_extents : (s : HashStore D) (v : ℕ) (changes : List Change) → (hash_nature s).extents ≡ Some v → (hash_shown image s).needs changes ≡ Some (extents_need (hash_nature s) v changes)
+  hash_by_extents s v changes is = let one : 1 ≡ v = cc in ap (λ (n : ℕ). Some (extents_need (hash_nature s) n changes)) one
