@@ -57,7 +57,7 @@ fn was_there<D: Disk>(
     key: &[u8],
 ) -> Result<bool, StoreError>
     requires p { head.now.p ≤ 24 }
-    requires buffer { 65536 ≤ length buffer.old }
+    requires buffer { 131072 ≤ length buffer.old }
     ensures value { (groups : List Group) → IfSome (D.image disk.old) (λ f. IsFile head.now f groups
         → IfOk result (λ there. there ≡ told_there (find key.now marks.now) (is_some (find key.now (replay Hash groups []))))) }
     ensures buffer { length buffer.new ≡ length buffer.old }
@@ -106,7 +106,7 @@ pub(crate) fn count_changes<D: Disk>(
     changes: &[Change],
 ) -> Result<u64, StoreError>
     requires p { head.now.p ≤ 24 }
-    requires buffer { 65536 ≤ length buffer.old }
+    requires buffer { 131072 ≤ length buffer.old }
     requires alone { HasNoClear changes.now }
     ensures count { (groups : List Group) → IfSome (D.image disk.old) (λ f. IsFile head.now f groups → count ≡ length (replay Hash groups [])
         → IfOk result (λ n. n ≡ length (after Hash changes.now (replay Hash groups [])))) }

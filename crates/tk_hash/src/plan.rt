@@ -78,7 +78,7 @@ pub(crate) fn plan_changes<D: Disk>(
     changes: &ChangeList,
 ) -> Result<Plan, StoreError>
     requires p { head.now.p ≤ 24 }
-    requires buffer { 65536 ≤ length buffer.old }
+    requires buffer { 131072 ≤ length buffer.old }
     requires fit { AllFit changes.now }
     requires alone { IsClearAlone changes.now }
     requires end { end_of end (group_bodies 0 changes.now) ≤ 2 ^ 40 }
