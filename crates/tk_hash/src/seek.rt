@@ -4,7 +4,7 @@ ghost use Rattle.std.specs.Option.{is_some};
 ghost use Rattle.tk_model.specs.Records.{find, replay};
 ghost use Rattle.tk_model.specs.declared.record.Order.TheVariants.{Hash};
 ghost use Rattle.tk_model.specs.declared.record.Group.{Group};
-ghost use Rattle.tk_store.specs.Store.{HasCause, NeverFull, Gives, GivesInto};
+ghost use Rattle.tk_store.specs.Store.{HasCause, NeverFull, OkOrFault, Gives, GivesInto};
 ghost use Rattle.tk_block.specs.Layout.{Placed, bucket_in};
 ghost use Rattle.tk_append.specs.FileText.{IsFile};
 ghost use Rattle.tk_append.specs.Read.{OnlyReads};
@@ -34,7 +34,7 @@ fn first_place<D: Disk>(disk: &mut D, head: &StaticHead, key: &[u8]) -> Result<u
     ensures still { OnlyReads D.may_leave D.moment D.left_since disk.old disk.new }
     ensures taken { D.taken_count disk.old ≤ D.taken_count disk.new }
     ensures cause { HasCause (D.fault_count disk.old) (D.fault_count disk.new) result }
-    ensures never { NeverFull result }
+    ensures answers { OkOrFault result }
 {
     let slot = bucket(mix(key), head.p);
     let mut bytes = [0; 8];
@@ -58,7 +58,7 @@ fn find_block<D: Disk>(
     ensures still { OnlyReads D.may_leave D.moment D.left_since disk.old disk.new }
     ensures taken { D.taken_count disk.old ≤ D.taken_count disk.new }
     ensures cause { HasCause (D.fault_count disk.old) (D.fault_count disk.new) result }
-    ensures never { NeverFull result }
+    ensures answers { OkOrFault result }
 {
     let mut place = first;
     while place != 0 {
@@ -91,7 +91,7 @@ fn seek_value<D: Disk>(
     ensures still { OnlyReads D.may_leave D.moment D.left_since disk.old disk.new }
     ensures taken { D.taken_count disk.old ≤ D.taken_count disk.new }
     ensures cause { HasCause (D.fault_count disk.old) (D.fault_count disk.new) result }
-    ensures never { NeverFull result }
+    ensures answers { OkOrFault result }
 {
     let first = first_place(disk, head, key)?;
     let Some(place) = find_block(disk, first, buffer, key)? else {
@@ -203,6 +203,7 @@ pub(crate) fn get_value_into<D: Disk>(
     ensures taken { D.taken_count disk.old ≤ D.taken_count disk.new }
     ensures cause { HasCause (D.fault_count disk.old) (D.fault_count disk.new) result }
     ensures never { NeverFull result }
+    ensures answers { OkOrFault result }
 {
     let end = window(buffer.len(), key.len(), into.len());
     let front = &mut buffer[..end];
@@ -230,6 +231,7 @@ pub(crate) fn has_key<D: Disk>(
     ensures taken { D.taken_count disk.old ≤ D.taken_count disk.new }
     ensures cause { HasCause (D.fault_count disk.old) (D.fault_count disk.new) result }
     ensures never { NeverFull result }
+    ensures answers { OkOrFault result }
 {
     let end = window(buffer.len(), key.len(), 0);
     let found = seek_value(disk, head, &mut buffer[..end], key)?;
