@@ -3,7 +3,6 @@ ghost use Rattle.std.specs.Prelude.{◌≡◌, ◌+◌, ◌-◌, ◌<◌, ◌≤
 ghost use Rattle.tk_model.specs.Orders.{same_bytes};
 ghost use Rattle.tk_store.specs.Store.{HasCause, OkOrFault};
 ghost use Rattle.tk_block.specs.Number.{u16_in};
-ghost use Rattle.tk_block.specs.Blocks.{extent_of};
 ghost use Rattle.tk_block.specs.Layout.{Placed};
 ghost use Rattle.tk_append.specs.Read.{OnlyReads};
 ghost use Rattle.tk_hash.specs.Linked.{StandsAt, Shows, Sees, shown};
@@ -15,7 +14,15 @@ use tk_store::StoreError;
 
 /// Head, link, numbers and the first eight bytes behind them.
 pub(crate) const FRONT: usize = 48;
-/// Where a block's key begins.
+/// Where the parts of a block stand.
+pub(crate) const LINK: usize = 16;
+
+pub(crate) const KIND: usize = 24;
+
+const KEY_LEN: usize = 26;
+
+pub(crate) const VALUE_LEN: usize = 28;
+
 pub(crate) const KEY: usize = 40;
 
 /// Reads bytes of the disk's file from a place on.
@@ -44,7 +51,8 @@ fn may_have(buffer: &[u8], key: &[u8]) -> bool
     ensures value { result ≡ ((u16_in buffer.now 26 == length key.now) && same_bytes (take (min (length key.now) 8) key.now) (take (min (length key.now) 8) (drop 40 buffer.now))) }
 {
     let first = key.len().min(FRONT - KEY);
-    u16_at(buffer, 26) as usize == key.len() && is_same(&key[..first], &buffer[KEY..KEY + first])
+    u16_at(buffer, KEY_LEN) as usize == key.len()
+        && is_same(&key[..first], &buffer[KEY..KEY + first])
 }
 
 /// Reads bytes of a block at a place, those from one on up to the end, to where they stand in the buffer.
@@ -98,7 +106,7 @@ pub(crate) fn has_key_at<D: Disk>(
     if !may_have(buffer, key) {
         return Ok(false);
     }
-    let end = KEY + key.len() + u32_at(buffer, 28) as usize;
+    let end = KEY + key.len() + u32_at(buffer, VALUE_LEN) as usize;
     let end = end.min(buffer.len());
     read_part(disk, place, buffer, FRONT, end)?;
     Ok(is_same(key, &buffer[KEY..KEY + key.len()]))

@@ -11,12 +11,15 @@ ghost use Rattle.tk_append.specs.Read.{OnlyReads};
 ghost use Rattle.tk_hash.specs.Chain.{chain_of, cost_in, extents};
 ghost use Rattle.tk_hash.specs.Linked.{IsChained, Found, Sought, StandsAt, Shows};
 
-use crate::block::{FRONT, KEY, fill_value, has_key_at, read_bytes};
+use crate::block::{FRONT, KEY, KIND, LINK, VALUE_LEN, fill_value, has_key_at, read_bytes};
 use std::alloc::Global;
 use tk_block::{StaticHead, u32_at, u64_at};
 use tk_disk::Disk;
 use tk_model::{Bytes, NoMemory, bucket, mix};
 use tk_store::StoreError;
+
+/// The kind of a block that sets a value.
+const SET: u8 = 1;
 
 /// The block of a value, and the value's length.
 #[derive(Clone, Copy)]
@@ -65,7 +68,7 @@ fn find_block<D: Disk>(
         if has_key_at(disk, place, buffer, key)? {
             return Ok(Some(place));
         }
-        let link = u64_at(buffer, 16);
+        let link = u64_at(buffer, LINK);
         if link >= place {
             return Ok(None);
         }
@@ -97,10 +100,10 @@ fn seek_value<D: Disk>(
     let Some(place) = find_block(disk, first, buffer, key)? else {
         return Ok(None);
     };
-    if buffer[24] != 1 {
+    if buffer[KIND] != SET {
         return Ok(None);
     }
-    let len = u32_at(buffer, 28);
+    let len = u32_at(buffer, VALUE_LEN);
     Ok(Some(ValueAt { place, len }))
 }
 
