@@ -1,17 +1,14 @@
 -- The front of a value, from what the buffer has of it and what is read behind that.
-use Rattle.std.proofs.Common.{◌≡◌, ℕ, ◌+◌, ◌-◌, ◌<◌, ◌≤◌, ◌^◌, List, [], ◌∷◌, ◌++◌, length, take, drop, refl, sym, ◌∙◌, ap, arith, length-append}
-use Rattle.std.specs.Prelude.{min, max, Option, Some, None, IfSome}
+use Rattle.std.proofs.Common.{◌≡◌, ℕ, ◌+◌, ◌-◌, ◌<◌, ◌≤◌, List, ◌++◌, length, take, drop, sym, ◌∙◌, ap, arith, length-append}
+use Rattle.std.specs.Prelude.{min, Option, Some, None, IfSome}
 use Rattle.std.proofs.lemmas.List.{take_at, take_all, drop_all, append-nil, length-take, length-drop, drop-drop, take-append-le}
 use Rattle.std.proofs.Math.Seq.{take-add}
 use borrow.Rule.Slice.PartMut.{put_mid}
-use Rattle.tk_block.specs.declared.block.Body.{Body}
-use Rattle.tk_block.specs.Blocks.{extent_of, room_of}
 use Rattle.tk_block.specs.Layout.{Placed}
 use Rattle.tk_block.proofs.Cells.{end_written}
 use Rattle.tk_hash.specs.Linked.{StandsAt, Shows}
 use Rattle.tk_hash.proofs.Fronts.{text, tail, behind_key}
 use Rattle.tk_hash.proofs.Seen.{told_text}
-
 
 module _ (x : Placed) (k have : ℕ) (buffer into copy : List ℕ) (key : length x.body.key ≡ k) (shows : Shows x.body buffer) (short : length into ≤ length x.body.value)
     (count : have ≡ min (length into) (length buffer - (40 + k))) (bytes : copy ≡ take ((40 + k + have) - (40 + k)) (drop (40 + k) buffer)) (fits : 40 + k ≤ length buffer) where

@@ -1,19 +1,17 @@
 -- What reading a block's front and then the rest says of it.
-use Rattle.std.proofs.Common.{◌≡◌, ℕ, ◌+◌, ◌-◌, ◌<◌, ◌≤◌, ◌^◌, List, [], ◌∷◌, ◌++◌, length, take, drop, refl, sym, ◌∙◌, ap, subst, arith, inl, inr, append_assoc, length-append}
-use Rattle.std.specs.Prelude.{Bool, true, false, eqb, ◌==◌, ◌&&◌, min, max, Option, Some, None, IfSome, Result, Ok, Err, IfOk}
+use Rattle.std.proofs.Common.{◌≡◌, ℕ, ◌+◌, ◌-◌, ◌<◌, ◌≤◌, ◌^◌, List, [], ◌++◌, length, take, drop, refl, sym, ◌∙◌, ap, subst, arith, append_assoc, length-append}
+use Rattle.std.specs.Prelude.{Bool, true, false, ◌==◌, ◌&&◌, min, max, Option, Some, None, IfSome, Result, Ok, Err, IfOk}
 use Rattle.std.proofs.lemmas.Bool.{eq-eqb, eqb-true}
 use Rattle.std.proofs.lemmas.List.{take_at, take_all, length-take, length-drop, drop-drop}
 use Rattle.std.proofs.Math.Seq.{take-add}
 use borrow.Rule.Slice.PartMut.{put_mid}
 use Rattle.tk_model.specs.Orders.{same_bytes}
 use Rattle.tk_model.proofs.KeyOrders.{same_told, same_itself}
-use Rattle.tk_model.proofs.RecordLaws.{so_or_not}
-use Rattle.tk_block.specs.declared.block.Body.{Body}
 use Rattle.tk_block.specs.Number.{u16_in, u32_in}
 use Rattle.tk_block.specs.Blocks.{extent_of, room_of}
 use Rattle.tk_block.specs.Layout.{Placed}
 use Rattle.tk_block.proofs.Lengths.{length-block_text}
-use Rattle.tk_hash.specs.Linked.{StandsAt, Shows, Sees, shown}
+use Rattle.tk_hash.specs.Linked.{StandsAt, Sees, shown}
 use Rattle.tk_hash.proofs.Fronts.{Front, text, front_of, key_part, value_part, value_fits}
 
 -- a part behind a front that was read

@@ -1,21 +1,20 @@
 -- A walk along a chain.
-use Rattle.std.proofs.Common.{◌≡◌, ◌≢◌, ℕ, ◌+◌, ◌-◌, ◌*◌, ◌<◌, ◌≤◌, ◌^◌, List, [], ◌∷◌, length, take, drop, refl, sym, ◌∙◌, ap, subst, arith}
-use Rattle.std.specs.Prelude.{Bool, true, false, min, max, Option, Some, None, IfSome, if◌then◌else◌}
+use Rattle.std.proofs.Common.{◌≡◌, ◌≢◌, ℕ, ◌+◌, ◌*◌, ◌<◌, ◌≤◌, ◌^◌, List, [], ◌∷◌, length, take, drop, refl, sym, ◌∙◌, ap, subst, arith}
+use Rattle.std.specs.Prelude.{Bool, true, false, Option, Some, None, IfSome, if◌then◌else◌}
 use Rattle.std.proofs.lemmas.List.{length-drop}
 use Rattle.std.specs.Int.{w64, from_be_bytes}
-use Rattle.tk_model.specs.Orders.{same_bytes}
 use Rattle.tk_model.specs.declared.record.Group.{Group}
 use Rattle.tk_model.proofs.KeyOrders.{same_told}
 use Rattle.tk_block.specs.declared.head.StaticHead.{StaticHead}
 use Rattle.tk_block.specs.Number.{u64_in}
 use Rattle.tk_block.specs.Text.{base_of}
-use Rattle.tk_block.specs.Blocks.{extent_of, room_of}
+use Rattle.tk_block.specs.Blocks.{extent_of}
 use Rattle.tk_block.specs.Layout.{Placed, bucket_in, bodies_of}
 use Rattle.tk_block.proofs.Cells.{within}
 use Rattle.tk_append.specs.FileText.{IsFile}
 use Rattle.tk_append.proofs.Layouts.{end_of-least}
 use Rattle.tk_hash.specs.Chain.{chain_of, value_in, value_by, extents}
-use Rattle.tk_hash.specs.Linked.{StandsAt, IsChained, Shows, Sees, Decides, Found, Left, shown}
+use Rattle.tk_hash.specs.Linked.{StandsAt, IsChained, Sees, Decides, Left, shown}
 use Rattle.tk_hash.proofs.Chained.{file_parts, file_chained}
 
 -- ---- the head of a bucket
@@ -54,13 +53,15 @@ module _ (key : List ℕ) (xs : List Placed) (f : List ℕ) (before mid now plac
   next_from buffer link [] some chained value cost sees costs is = absurd (some chained)
   next_from buffer link (x ∷ ys) some chained value cost sees costs is =
       let s = sees x chained.1 chained.2 (sym chained.0) in
-      let same : link ≡ chained.1 = is ∙ s.link_is in
-      (record {
-        rest = ys;
-        chained = subst (λ (k : ℕ). IsChained f k ys) (sym same) chained.3;
-        value = value ∙ ap (λ (t : Bool). if t then value_in x.body else value_by key ys) (sym s.told);
-        cost = omega (arith, costs x chained.1 chained.2 (sym chained.0), cost, shown_most x room);
-      }, omega (arith, same, chained.2.down, chained.0))
+      let same : link ≡ chained.1 = is ∙ s.link_is in (
+        record {
+          rest = ys;
+          chained = subst (λ (k : ℕ). IsChained f k ys) (sym same) chained.3;
+          value = value ∙ ap (λ (t : Bool). if t then value_in x.body else value_by key ys) (sym s.told);
+          cost = omega (arith, costs x chained.1 chained.2 (sym chained.0), cost, shown_most x room);
+        },
+        omega (arith, same, chained.2.down, chained.0),
+      )
 
   here_from : (buffer : List ℕ) (rest : List Placed) → place ≢ 0 → IsChained f place rest → value_by key xs ≡ value_by key rest → mid + extents rest ≤ before + extents xs → SeenAt key buffer place true f
       → CostsAt place mid now (length buffer) f → Decides key xs f buffer before now place
@@ -86,10 +87,6 @@ none_from key f xs (x ∷ ys) place none chained value = absurd (omega (arith, n
 
 abbrev pub ToldLeft : (key : List ℕ) (o : Option (List ℕ)) (first : ℕ) (xs : List Placed) (before now place : ℕ) → Type 0
 ToldLeft key o first xs before now place = IfSome o (λ f. IsChained f first xs → Left key xs f before now place)
-
-pub begins : (key : List ℕ) (o : Option (List ℕ)) (first : ℕ) (xs : List Placed) (before : ℕ) → ToldLeft key o first xs before before first
-begins key None first xs before = tt
-begins key (Some f) first xs before = λ chained. record { rest = xs; chained = chained; value = refl; cost = omega arith }
 
 -- at each block
 abbrev pub AtEach : Option (List ℕ) → (place : ℕ) → (Placed → ℕ → Type 0) → Type 0

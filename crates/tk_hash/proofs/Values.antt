@@ -1,20 +1,19 @@
 -- What a search for a value comes to in a file of groups.
-use Rattle.std.proofs.Common.{◌≡◌, ◌≢◌, ℕ, ◌+◌, ◌-◌, ◌<◌, ◌≤◌, List, [], ◌∷◌, ◌++◌, length, take, drop, get_or, refl, sym, ◌∙◌, ap, subst, arith}
-use Rattle.std.specs.Prelude.{Bool, true, false, ◌==◌, min, max, Option, Some, None, IfSome, if◌then◌else◌}
+use Rattle.std.proofs.Common.{◌≡◌, ◌≢◌, ℕ, ◌+◌, ◌-◌, ◌≤◌, List, [], ◌++◌, length, take, drop, get_or, refl, sym, ◌∙◌, ap, subst, arith}
+use Rattle.std.specs.Prelude.{Bool, true, false, min, Option, Some, None, IfSome, if◌then◌else◌}
 use Rattle.std.specs.Option.{is_some}
 use Rattle.std.proofs.lemmas.Bool.{eq-eqb, ne_eqb}
-use Rattle.std.proofs.lemmas.List.{length-take, take_all}
+use Rattle.std.proofs.lemmas.List.{length-take}
 use Rattle.tk_model.specs.Records.{find, replay}
 use Rattle.tk_model.specs.declared.record.Order.TheVariants.{Hash}
 use Rattle.tk_model.specs.declared.record.Group.{Group}
-use Rattle.tk_store.specs.Store.{Gives, GivesInto, copied}
+use Rattle.tk_store.specs.Store.{Gives, GivesInto}
 use Rattle.tk_block.specs.declared.head.StaticHead.{StaticHead}
 use Rattle.tk_block.specs.Number.{u32_in}
-use Rattle.tk_block.specs.Blocks.{extent_of, room_of}
 use Rattle.tk_block.specs.Layout.{Placed, bucket_in}
 use Rattle.tk_append.specs.FileText.{IsFile}
-use Rattle.tk_hash.specs.Chain.{chain_of, cost_in, extents, value_by}
-use Rattle.tk_hash.specs.Linked.{StandsAt, IsChained, Shows, Decides, Found, HasValue, Sought, shown}
+use Rattle.tk_hash.specs.Chain.{chain_of, cost_in, extents}
+use Rattle.tk_hash.specs.Linked.{StandsAt, IsChained, Shows, Decides, Found, HasValue, Sought}
 use Rattle.tk_hash.specs.declared.seek.ValueAt.{ValueAt}
 use Rattle.tk_hash.proofs.Chains.{found_in_chain}
 
@@ -89,9 +88,9 @@ module _ (h : StaticHead) (key : List ℕ) (groups : List Group) where
       has_told None found is sought = tt
       has_told (Some f) found is sought = λ file. is ∙ same_kind f r refl (sought file)
         where
-        same_kind : (f : List ℕ) (s : Option ValueAt) → s ≡ r → Sought key value f buffer before now cost r → is_some r ≡ is_some value
-        same_kind f None none s = ap is_some (sym none) ∙ sym (ap is_some (no_value f (sym none) s))
-        same_kind f (Some v) some s = ap is_some (sym some) ∙ sym (ap is_some (has_value f v (sym some) s).value_is)
+          same_kind : (f : List ℕ) (s : Option ValueAt) → s ≡ r → Sought key value f buffer before now cost r → is_some r ≡ is_some value
+          same_kind f None none s = ap is_some (sym none) ∙ sym (ap is_some (no_value f (sym none) s))
+          same_kind f (Some v) some s = ap is_some (sym some) ∙ sym (ap is_some (has_value f v (sym some) s).value_is)
 
       pub gives_none : (o : Option (List ℕ)) (out : List ℕ) → r ≡ None → IfSome o SoughtIn → IfSome o (λ f. IsFile h f groups → Gives value out out false)
       gives_none None out none sought = tt

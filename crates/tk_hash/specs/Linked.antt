@@ -1,7 +1,7 @@
 -- Blocks that stand in a file, each with the place of the next one of its chain, and what a look-up sees of them.
 use Rattle.std.specs.Prelude.{◌≡◌, ℕ, ◌<◌, ◌≤◌, ◌+◌, ◌-◌, ◌^◌, min, max, Bool, true, List, [], ◌∷◌, ◌++◌, length, take, drop, slice_index, Option, Some, None}
 use Rattle.tk_model.specs.Orders.{same_bytes}
-use Rattle.tk_block.specs.Number.{u16_in, u32_in, u64_in}
+use Rattle.tk_block.specs.Number.{u32_in, u64_in}
 use Rattle.tk_block.specs.Blocks.{block_text, extent_of, room_of}
 use Rattle.tk_block.specs.Grammar.{FitsBody}
 use Rattle.tk_block.specs.Layout.{Placed}

@@ -1,9 +1,8 @@
 //! Reading a block of a chain into a buffer.
 ghost use Rattle.std.specs.Prelude.{◌≡◌, ◌+◌, ◌-◌, ◌<◌, ◌≤◌, ◌^◌, ◌&&◌, ◌==◌, ℕ, true, min, max, length, take, drop, IfOk, IfSome};
 ghost use Rattle.tk_model.specs.Orders.{same_bytes};
-ghost use Rattle.tk_store.specs.Store.{HasCause, NeverFull};
+ghost use Rattle.tk_store.specs.Store.{HasCause, OkOrFault};
 ghost use Rattle.tk_block.specs.Number.{u16_in};
-ghost use Rattle.tk_block.specs.Blocks.{extent_of};
 ghost use Rattle.tk_block.specs.Layout.{Placed};
 ghost use Rattle.tk_append.specs.Read.{OnlyReads};
 ghost use Rattle.tk_hash.specs.Linked.{StandsAt, Shows, Sees, shown};
@@ -15,23 +14,28 @@ use tk_store::StoreError;
 
 /// Head, link, numbers and the first eight bytes behind them.
 pub(crate) const FRONT: usize = 48;
-/// Where a block's key begins.
+/// Where the parts of a block stand.
+pub(crate) const LINK: usize = 16;
+
+pub(crate) const KIND: usize = 24;
+
+const KEY_LEN: usize = 26;
+
+pub(crate) const VALUE_LEN: usize = 28;
+
 pub(crate) const KEY: usize = 40;
 
 /// Reads bytes of the disk's file from a place on.
-pub(crate) fn read_bytes<D: Disk>(
-    disk: &mut D,
-    at: u64,
-    into: &mut [u8],
-) -> Result<(), StoreError>
+pub(crate) fn read_bytes<D: Disk>(disk: &mut D, at: u64, into: &mut [u8]) -> Result<(), StoreError>
     ensures bytes { IfSome (D.image disk.old) (λ f. length into.old ≤ length (drop at f) → IfOk result (λ _. into.new ≡ take (length into.old) (drop at f))) }
     ensures cost { D.taken_count disk.new ≤ D.taken_count disk.old + length into.old }
     ensures image { D.image disk.new ≡ D.image disk.old }
     ensures still { OnlyReads D.may_leave D.moment D.left_since disk.old disk.new }
     ensures taken { D.taken_count disk.old ≤ D.taken_count disk.new }
     ensures cause { HasCause (D.fault_count disk.old) (D.fault_count disk.new) result }
-    ensures never { NeverFull result }
+    ensures answers { OkOrFault result }
 {
+    // What was taken so far fits 64 bits.
     disk.taken();
     match disk.read_at(at, into) {
         Ok(_) => Ok(()),
@@ -47,7 +51,7 @@ fn may_have(buffer: &[u8], key: &[u8]) -> bool
     ensures value { result ≡ ((u16_in buffer.now 26 == length key.now) && same_bytes (take (min (length key.now) 8) key.now) (take (min (length key.now) 8) (drop 40 buffer.now))) }
 {
     let first = key.len().min(FRONT - KEY);
-    u16_at(buffer, 26) as usize == key.len()
+    u16_at(buffer, KEY_LEN) as usize == key.len()
         && is_same(&key[..first], &buffer[KEY..KEY + first])
 }
 
@@ -68,12 +72,16 @@ fn read_part<D: Disk>(
     ensures still { OnlyReads D.may_leave D.moment D.left_since disk.old disk.new }
     ensures taken { D.taken_count disk.old ≤ D.taken_count disk.new }
     ensures cause { HasCause (D.fault_count disk.old) (D.fault_count disk.new) result }
-    ensures never { NeverFull result }
+    ensures answers { OkOrFault result }
 {
     if end <= from {
         return Ok(());
     }
-    read_bytes(disk, place.saturating_add(from as u64), &mut buffer[from..end])
+    read_bytes(
+        disk,
+        place.saturating_add(from as u64),
+        &mut buffer[from..end],
+    )
 }
 
 /// Whether the block at a place has the key. The buffer then has its bytes as far as its value ends, or the buffer does.
@@ -92,13 +100,13 @@ pub(crate) fn has_key_at<D: Disk>(
     ensures still { OnlyReads D.may_leave D.moment D.left_since disk.old disk.new }
     ensures taken { D.taken_count disk.old ≤ D.taken_count disk.new }
     ensures cause { HasCause (D.fault_count disk.old) (D.fault_count disk.new) result }
-    ensures never { NeverFull result }
+    ensures answers { OkOrFault result }
 {
     read_part(disk, place, buffer, 0, FRONT)?;
     if !may_have(buffer, key) {
         return Ok(false);
     }
-    let end = KEY + key.len() + u32_at(buffer, 28) as usize;
+    let end = KEY + key.len() + u32_at(buffer, VALUE_LEN) as usize;
     let end = end.min(buffer.len());
     read_part(disk, place, buffer, FRONT, end)?;
     Ok(is_same(key, &buffer[KEY..KEY + key.len()]))
@@ -120,7 +128,7 @@ pub(crate) fn fill_value<D: Disk>(
     ensures still { OnlyReads D.may_leave D.moment D.left_since disk.old disk.new }
     ensures taken { D.taken_count disk.old ≤ D.taken_count disk.new }
     ensures cause { HasCause (D.fault_count disk.old) (D.fault_count disk.new) result }
-    ensures never { NeverFull result }
+    ensures answers { OkOrFault result }
 {
     let start = KEY + key;
     let have = into.len().min(buffer.len() - start);

@@ -4,19 +4,22 @@ ghost use Rattle.std.specs.Option.{is_some};
 ghost use Rattle.tk_model.specs.Records.{find, replay};
 ghost use Rattle.tk_model.specs.declared.record.Order.TheVariants.{Hash};
 ghost use Rattle.tk_model.specs.declared.record.Group.{Group};
-ghost use Rattle.tk_store.specs.Store.{HasCause, NeverFull, Gives, GivesInto};
+ghost use Rattle.tk_store.specs.Store.{HasCause, NeverFull, OkOrFault, Gives, GivesInto};
 ghost use Rattle.tk_block.specs.Layout.{Placed, bucket_in};
 ghost use Rattle.tk_append.specs.FileText.{IsFile};
 ghost use Rattle.tk_append.specs.Read.{OnlyReads};
 ghost use Rattle.tk_hash.specs.Chain.{chain_of, cost_in, extents};
 ghost use Rattle.tk_hash.specs.Linked.{IsChained, Found, Sought, StandsAt, Shows};
 
-use crate::block::{FRONT, KEY, fill_value, has_key_at, read_bytes};
+use crate::block::{FRONT, KEY, KIND, LINK, VALUE_LEN, fill_value, has_key_at, read_bytes};
 use std::alloc::Global;
 use tk_block::{StaticHead, u32_at, u64_at};
 use tk_disk::Disk;
 use tk_model::{Bytes, NoMemory, bucket, mix};
 use tk_store::StoreError;
+
+/// The kind of a block that sets a value.
+const SET: u8 = 1;
 
 /// The block of a value, and the value's length.
 #[derive(Clone, Copy)]
@@ -34,7 +37,7 @@ fn first_place<D: Disk>(disk: &mut D, head: &StaticHead, key: &[u8]) -> Result<u
     ensures still { OnlyReads D.may_leave D.moment D.left_since disk.old disk.new }
     ensures taken { D.taken_count disk.old ≤ D.taken_count disk.new }
     ensures cause { HasCause (D.fault_count disk.old) (D.fault_count disk.new) result }
-    ensures never { NeverFull result }
+    ensures answers { OkOrFault result }
 {
     let slot = bucket(mix(key), head.p);
     let mut bytes = [0; 8];
@@ -58,14 +61,14 @@ fn find_block<D: Disk>(
     ensures still { OnlyReads D.may_leave D.moment D.left_since disk.old disk.new }
     ensures taken { D.taken_count disk.old ≤ D.taken_count disk.new }
     ensures cause { HasCause (D.fault_count disk.old) (D.fault_count disk.new) result }
-    ensures never { NeverFull result }
+    ensures answers { OkOrFault result }
 {
     let mut place = first;
     while place != 0 {
         if has_key_at(disk, place, buffer, key)? {
             return Ok(Some(place));
         }
-        let link = u64_at(buffer, 16);
+        let link = u64_at(buffer, LINK);
         if link >= place {
             return Ok(None);
         }
@@ -91,16 +94,16 @@ fn seek_value<D: Disk>(
     ensures still { OnlyReads D.may_leave D.moment D.left_since disk.old disk.new }
     ensures taken { D.taken_count disk.old ≤ D.taken_count disk.new }
     ensures cause { HasCause (D.fault_count disk.old) (D.fault_count disk.new) result }
-    ensures never { NeverFull result }
+    ensures answers { OkOrFault result }
 {
     let first = first_place(disk, head, key)?;
     let Some(place) = find_block(disk, first, buffer, key)? else {
         return Ok(None);
     };
-    if buffer[24] != 1 {
+    if buffer[KIND] != SET {
         return Ok(None);
     }
-    let len = u32_at(buffer, 28);
+    let len = u32_at(buffer, VALUE_LEN);
     Ok(Some(ValueAt { place, len }))
 }
 
@@ -203,6 +206,7 @@ pub(crate) fn get_value_into<D: Disk>(
     ensures taken { D.taken_count disk.old ≤ D.taken_count disk.new }
     ensures cause { HasCause (D.fault_count disk.old) (D.fault_count disk.new) result }
     ensures never { NeverFull result }
+    ensures answers { OkOrFault result }
 {
     let end = window(buffer.len(), key.len(), into.len());
     let front = &mut buffer[..end];
@@ -230,6 +234,7 @@ pub(crate) fn has_key<D: Disk>(
     ensures taken { D.taken_count disk.old ≤ D.taken_count disk.new }
     ensures cause { HasCause (D.fault_count disk.old) (D.fault_count disk.new) result }
     ensures never { NeverFull result }
+    ensures answers { OkOrFault result }
 {
     let end = window(buffer.len(), key.len(), 0);
     let found = seek_value(disk, head, &mut buffer[..end], key)?;

@@ -1,4 +1,4 @@
-use Rattle.std.proofs.Common.{ℕ, ◌+◌, ◌-◌, length, take, drop, refl, sym, ◌∙◌, ap, arith}
+use Rattle.std.proofs.Common.{ℕ, length, take, drop, sym, ◌∙◌, ap, arith}
 use Rattle.tk_model.specs.Orders.{same_bytes}
 use Rattle.tk_hash.proofs.Seen.{not_seen_told, seen_told, cost_told}
 use Rattle.tk_hash.proofs.block.has_key_at.Goals as goal

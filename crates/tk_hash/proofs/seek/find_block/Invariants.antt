@@ -1,4 +1,4 @@
-use Rattle.std.proofs.Common.{◌≡◌, ℕ, ◌≤◌, List, length}
+use Rattle.std.proofs.Common.{◌≡◌, ◌≤◌, List, length}
 use Rattle.tk_block.specs.Layout.{Placed}
 use Rattle.tk_append.specs.Read.{OnlyReads}
 use Rattle.tk_hash.proofs.Sought.{ToldLeft}

@@ -1,4 +1,4 @@
-use Rattle.std.proofs.Common.{length, sym, ◌∙◌, ap}
+use Rattle.std.proofs.Common.{length, ◌∙◌, ap}
 use Rattle.tk_hash.proofs.Filled.{whole_told}
 use Rattle.tk_hash.proofs.seek.give_value.Goals as goal
 
