@@ -1,5 +1,5 @@
 -- The blocks of a group in the chains of a file, one more.
-use Rattle.std.proofs.Common.{◌≡◌, ℕ, zero, suc, ◌+◌, ◌-◌, ◌*◌, ◌<◌, ◌≤◌, ◌^◌, Bool, cond, List, [], ◌∷◌, ◌++◌, length, get_or, take, drop, replicate, true, false, Some, refl, sym, ◌∙◌, ap, subst, inl, inr, arith, append_assoc, length-append, get_or-set_same, get_or-set_other}
+use Rattle.std.proofs.Common.{◌≡◌, ℕ, zero, suc, ◌+◌, ◌-◌, ◌*◌, ◌<◌, ◌≤◌, ◌^◌, Bool, cond, List, [], ◌∷◌, ◌++◌, length, get_or, take, drop, replicate, true, false, Some, refl, sym, ◌∙◌, ap, subst, inl, inr, arith, length-append, get_or-set_same, get_or-set_other}
 use Rattle.std.proofs.lemmas.Grind.{common_steps}
 use Rattle.std.specs.Prelude.{Option, ◌==◌, if◌then◌else◌}
 use Rattle.std.specs.Option.{unwrap_or}
@@ -15,17 +15,17 @@ use Rattle.tk_model.specs.Records.{HasNoClear}
 use Rattle.tk_block.specs.Text.{base_of, static_text, closing_text}
 use Rattle.tk_block.specs.Number.{u64_in}
 use Rattle.tk_block.specs.Blocks.{body_of, is_nil, group_bodies, extent_of, key_of}
-use Rattle.tk_block.specs.Layout.{Placed, laid, links_of, link_of, end_of, newest, bodies_of, bucket_in, heads_text}
+use Rattle.tk_block.specs.Layout.{Placed, laid, links_of, end_of, newest, bodies_of, bucket_in, heads_text}
 use Rattle.tk_block.specs.declared.block.Body.{Body}
 use Rattle.tk_block.specs.declared.head.StaticHead.{StaticHead}
 use Rattle.tk_block.proofs.Grammar.{length-closing_text, length-static_text}
 use Rattle.tk_block.proofs.Lengths.{length-texts, length-heads_text}
 use Rattle.tk_append.specs.Chains.{HeadsAre, HasKey}
 use Rattle.tk_append.specs.Log.{blocks_of}
-use Rattle.tk_append.specs.FileText.{IsFile, text_of}
+use Rattle.tk_append.specs.FileText.{IsFile}
 use Rattle.tk_append.specs.Restored.{groups_text}
 use Rattle.tk_append.proofs.PlanSteps as steps
-use Rattle.tk_append.proofs.PlanLoop.{Ahead, begun, ahead_more, all_ahead_heads, all_ahead_links}
+use Rattle.tk_append.proofs.PlanLoop.{Ahead, ahead_more}
 use Rattle.tk_append.proofs.Reopened.{head_read, newest_laid}
 use Rattle.tk_hash.specs.declared.plan.NewHead.{NewHead}
 use Rattle.tk_hash.specs.declared.plan.NewHeads.{NewHeads}
