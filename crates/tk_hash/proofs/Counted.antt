@@ -1,5 +1,5 @@
 -- The number of records behind changes, one at a time.
-use Rattle.std.proofs.Common.{◌≡◌, ℕ, zero, suc, ◌+◌, ◌-◌, ◌<◌, ◌≤◌, Bool, true, false, cond, Option, Some, None, List, [], ◌∷◌, ◌++◌, length, get_or, take, refl, sym, ◌∙◌, ap, subst, inl, inr, arith}
+use Rattle.std.proofs.Common.{◌≡◌, ℕ, zero, suc, ◌+◌, ◌-◌, ◌<◌, Bool, true, false, cond, Option, Some, None, List, [], ◌∷◌, ◌++◌, length, get_or, take, refl, sym, ◌∙◌, ap, subst, inl, inr, arith}
 use Rattle.std.specs.Prelude.{if◌then◌else◌}
 use Rattle.std.specs.Option.{is_some}
 use Rattle.std.specs.declared.cmp.Ordering.{Ordering}
@@ -12,11 +12,10 @@ use Rattle.tk_model.specs.declared.record.Pair.{Pair}
 use Rattle.tk_model.specs.declared.record.Change.{Change}
 use Rattle.tk_model.specs.declared.record.Change.TheVariants as changes
 use Rattle.tk_model.proofs.KeyOrders.{keys_apart, same_told, same_itself}
-use Rattle.tk_model.proofs.RecordLaws.{so_or_not, apart_less, apart_greater, behind_earlier, none_behind, found_head, found_deeper, find_put_same, find_put_other, find_without_same, find_without_other, one_rising, after_rising}
+use Rattle.tk_model.proofs.RecordLaws.{so_or_not, apart_greater, behind_earlier, none_behind, found_head, found_deeper, find_put_same, find_put_other, find_without_same, find_without_other, one_rising, after_rising}
 use Rattle.tk_model.proofs.NetChanges.{after_append}
 use Rattle.tk_block.specs.Blocks.{key_of}
 use Rattle.tk_hash.specs.Plan.{mark_in, marked, told_there, count_after}
-use Rattle.tk_hash.proofs.GroupChained.{no_clear_rest}
 
 grow : (b : Bool) (n : ℕ) → suc (cond b n (n + 1)) ≡ cond b (suc n) (suc n + 1)
 grow true n = refl

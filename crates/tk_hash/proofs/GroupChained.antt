@@ -1,5 +1,5 @@
 -- The blocks of a group in the chains of a file, one more.
-use Rattle.std.proofs.Common.{◌≡◌, ℕ, zero, suc, ◌+◌, ◌-◌, ◌*◌, ◌<◌, ◌≤◌, ◌^◌, Bool, cond, List, [], ◌∷◌, ◌++◌, length, get_or, take, drop, true, false, Some, refl, sym, ◌∙◌, ap, subst, inl, inr, arith, append_assoc, length-append, get_or-set_same, get_or-set_other}
+use Rattle.std.proofs.Common.{◌≡◌, ℕ, zero, suc, ◌+◌, ◌-◌, ◌*◌, ◌<◌, ◌≤◌, ◌^◌, Bool, cond, List, [], ◌∷◌, ◌++◌, length, get_or, take, drop, replicate, true, false, Some, refl, sym, ◌∙◌, ap, subst, inl, inr, arith, length-append, get_or-set_same, get_or-set_other}
 use Rattle.std.proofs.lemmas.Grind.{common_steps}
 use Rattle.std.specs.Prelude.{Option, ◌==◌, if◌then◌else◌}
 use Rattle.std.specs.Option.{unwrap_or}
@@ -15,20 +15,22 @@ use Rattle.tk_model.specs.Records.{HasNoClear}
 use Rattle.tk_block.specs.Text.{base_of, static_text, closing_text}
 use Rattle.tk_block.specs.Number.{u64_in}
 use Rattle.tk_block.specs.Blocks.{body_of, is_nil, group_bodies, extent_of, key_of}
-use Rattle.tk_block.specs.Layout.{Placed, laid, links_of, link_of, end_of, newest, bodies_of, bucket_in, heads_text}
+use Rattle.tk_block.specs.Layout.{Placed, laid, links_of, end_of, newest, bodies_of, bucket_in, heads_text}
 use Rattle.tk_block.specs.declared.block.Body.{Body}
 use Rattle.tk_block.specs.declared.head.StaticHead.{StaticHead}
 use Rattle.tk_block.proofs.Grammar.{length-closing_text, length-static_text}
 use Rattle.tk_block.proofs.Lengths.{length-texts, length-heads_text}
 use Rattle.tk_append.specs.Chains.{HeadsAre, HasKey}
 use Rattle.tk_append.specs.Log.{blocks_of}
-use Rattle.tk_append.specs.FileText.{IsFile, text_of}
+use Rattle.tk_append.specs.FileText.{IsFile}
 use Rattle.tk_append.specs.Restored.{groups_text}
 use Rattle.tk_append.proofs.PlanSteps as steps
-use Rattle.tk_append.proofs.PlanLoop.{Ahead, begun, ahead_more, all_ahead_heads, all_ahead_links}
+use Rattle.tk_append.proofs.PlanLoop.{Ahead, ahead_more}
 use Rattle.tk_append.proofs.Reopened.{head_read, newest_laid}
 use Rattle.tk_hash.specs.declared.plan.NewHead.{NewHead}
-use Rattle.tk_hash.specs.Plan.{with_new, AllBelow, placed_in, IsNewest}
+use Rattle.tk_hash.specs.declared.plan.NewHeads.{NewHeads}
+use Rattle.tk_hash.specs.declared.plan.NewHeads.TheVariants.{Cleared}
+use Rattle.tk_hash.specs.Plan.{with_new, with_heads, AllBelow, placed_in, IsNewest}
 
 -- one new head more, the last
 pub placed_more : (ns : List NewHead) (n : NewHead) (b found : ℕ) → placed_in (ns ++ n ∷ []) b found ≡ cond (n.bucket == b) n.place (placed_in ns b found)
@@ -158,3 +160,11 @@ pub rest_ends : (place e end i : ℕ) (c : Change) (cs : List Change) (number : 
     → end_of place (group_bodies number (drop i cs)) ≡ end_of end (group_bodies number cs) → end_of (place + e) (group_bodies number (drop (i + 1) cs)) ≡ end_of end (group_bodies number cs)
 rest_ends place e end i c cs number is long ends =
     ap (λ (n : ℕ). end_of (place + n) (group_bodies number (drop (i + 1) cs))) long ∙ sym (ap (λ (l : List Change). end_of place (group_bodies number l)) is) ∙ ends
+
+-- a clear leaves no heads
+pub cleared_heads : (p end number : ℕ) (heads : List ℕ) (before : List Placed) (new : NewHeads) (cs : List Change) → new ≡ Cleared → cs ≡ changes.Clear ∷ [] → HeadsAre p heads before
+    → HeadsAre p (with_heads new heads) (before ++ laid end (group_bodies number cs))
+cleared_heads p end number heads before new cs all clear are =
+    subst (λ (n : NewHeads). HeadsAre p (with_heads n heads) (before ++ laid end (group_bodies number cs))) (sym all)
+    (subst (λ (l : List Change). HeadsAre p (replicate (length heads) 0) (before ++ laid end (group_bodies number l))) (sym clear)
+    (steps.cleared p end (body_of number changes.Clear true) (replicate (length heads) 0) before refl (ap (λ (n : ℕ). replicate n 0) are.whole)))

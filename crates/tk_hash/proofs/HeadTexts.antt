@@ -160,3 +160,7 @@ zero_bytes zeros bytes n are within is =
 pub if_both : (o : Option (List ℕ)) (P Q R : List ℕ → Type 0) → IfSome o P → IfSome o Q → ((f : List ℕ) → P f → Q f → R f) → IfSome o R
 if_both None P Q R one two more = tt
 if_both (Some f) P Q R one two more = more f one two
+
+pub always : (o : Option (List ℕ)) (P : List ℕ → Type 0) → ((f : List ℕ) → P f) → IfSome o P
+always None P holds = tt
+always (Some f) P holds = holds f

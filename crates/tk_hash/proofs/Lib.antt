@@ -15,6 +15,7 @@ pub mod Heads
 pub mod InOrder
 pub mod Keeping
 pub mod Looks
+pub mod Once
 pub mod ReadSteps
 pub mod Seen
 pub mod Sought

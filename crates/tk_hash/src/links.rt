@@ -1,6 +1,7 @@
 //! The links of a group's blocks, and the heads behind it.
-ghost use Rattle.std.specs.Prelude.{◌≡◌, ◌+◌, ◌-◌, ◌*◌, ◌≤◌, ◌<◌, ◌^◌, ◌++◌, ◌∷◌, ℕ, List, [], length, take, IfOk, IfSome, OnOk};
-ghost use Rattle.tk_disk.specs.Crash.{Within, Elapses};
+ghost use Rattle.std.specs.Prelude.{◌≡◌, ◌+◌, ◌-◌, ◌*◌, ◌≤◌, ◌<◌, ◌^◌, ◌++◌, ◌∷◌, ℕ, List, [], length, take, map, IfOk, IfSome, OnOk};
+ghost use Rattle.std.specs.Ordering.{nat_cmp};
+ghost use Rattle.std.specs.BTreeMap.{IsOrdered};
 ghost use Rattle.tk_model.specs.Records.{AllFit, HasNoClear};
 ghost use Rattle.tk_model.specs.declared.record.Group.{Group};
 ghost use Rattle.tk_store.specs.Store.{HasCause, NeverFull};
@@ -94,6 +95,21 @@ fn newest_block<D: Disk>(
     }
 }
 
+/// The newest blocks as new heads, each bucket once, in order.
+fn heads_of(alloc: Global, newest: &BTreeMap<u64, u64>) -> Result<Vec<NewHead>, NoMemory>
+    ensures heads { IfOk result (λ heads. heads.items ≡ map (λ e. record { bucket = e.0; place = e.1 }) newest.now.entries) }
+    ensures ordered { IsOrdered nat_cmp newest.now }
+{
+    let heads = newest
+        .iter()
+        .map(|(bucket, place)| NewHead {
+            bucket: *bucket,
+            place: *place,
+        })
+        .collect(alloc)?;
+    Ok(heads)
+}
+
 impl Chains {
     fn new(alloc: Global) -> Chains
         ensures links { result.links ≡ [] }
@@ -114,6 +130,20 @@ impl Chains {
     {
         self.links.push(link)?;
         self.heads.push(head)?;
+        Ok(())
+    }
+
+    /// Leaves each bucket once among the new heads, with its newest block.
+    pub(crate) fn settle(&mut self, alloc: Global) -> Result<(), NoMemory>
+        requires newest { IsNewest self.old.newest (take (length self.old.heads.items - 1) self.old.heads.items) }
+        ensures heads { OnOk result ((bucket found : ℕ) → placed_in self.new.heads.items bucket found ≡ placed_in self.old.heads.items bucket found) }
+        ensures links { self.new.links ≡ self.old.links }
+    {
+        if self.heads.len() < 2 {
+            return Ok(());
+        }
+        remember(&mut self.newest, &self.heads)?;
+        self.heads = heads_of(alloc, &self.newest)?;
         Ok(())
     }
 }
@@ -165,6 +195,7 @@ pub(crate) fn chain_changes<D: Disk>(
         → IfOk result (λ chains. HeadsAre head.now.p (with_new chains.heads.items heads) (blocks_of head.now groups ++ laid end (group_bodies number changes.now)))) }
     ensures fit { IfOk result (λ chains. AllBelow (2 ^ head.now.p) chains.heads.items) }
     ensures counts { IfOk result (λ chains. length chains.links ≡ length changes.now) }
+    ensures newest { IfOk result (λ chains. IsNewest chains.newest (take (length chains.heads.items - 1) chains.heads.items)) }
     ensures image { D.image disk.new ≡ D.image disk.old }
     ensures still { OnlyReads D.may_leave D.moment D.left_since disk.old disk.new }
     ensures taken { D.taken_count disk.old ≤ D.taken_count disk.new }

@@ -101,7 +101,8 @@ pub(crate) fn plan_changes<D: Disk>(
     if let [Change::Clear] = changes {
         return Ok(plan_clear(alloc)?);
     }
-    let chains = chain_changes(alloc, disk, head, end, changes)?;
+    let mut chains = chain_changes(alloc, disk, head, end, changes)?;
+    chains.settle(alloc)?;
     let count = count_changes(alloc, disk, head, count, buffer, changes)?;
     Ok(Plan {
         links: chains.links,

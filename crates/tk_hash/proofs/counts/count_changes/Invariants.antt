@@ -1,4 +1,4 @@
-use Rattle.std.proofs.Common.{◌≡◌, ◌-◌, ◌≤◌, ℕ, List, [], length, take}
+use Rattle.std.proofs.Common.{◌≡◌, ◌-◌, ◌≤◌, List, [], length, take}
 use Rattle.std.specs.Prelude.{IfSome}
 use Rattle.tk_model.specs.Records.{after, replay}
 use Rattle.tk_model.specs.declared.record.Order.TheVariants.{Hash}

@@ -1,10 +1,10 @@
-use Rattle.std.proofs.Common.{◌≡◌, ℕ, ◌+◌, ◌-◌, ◌*◌, ◌≤◌, ◌<◌, ◌^◌, ◌∷◌, ◌++◌, List, [], length, take, drop, sym, ◌∙◌, ap, subst, arith}
+use Rattle.std.proofs.Common.{◌≡◌, ℕ, ◌+◌, ◌-◌, ◌*◌, ◌≤◌, ◌^◌, ◌∷◌, ◌++◌, List, [], length, take, drop, sym, ◌∙◌, ap, subst, arith}
 use Rattle.std.specs.Prelude.{Option, IfSome}
 use Rattle.std.proofs.lemmas.List.{drop_all}
 use Rattle.tk_model.specs.declared.record.Change.{Change}
-use Rattle.tk_model.specs.Records.{AllFit, HasNoClear}
+use Rattle.tk_model.specs.Records.{HasNoClear}
 use Rattle.tk_block.specs.Number.{u64_in}
-use Rattle.tk_block.specs.Blocks.{group_bodies, is_nil, key_of}
+use Rattle.tk_block.specs.Blocks.{group_bodies, is_nil}
 use Rattle.tk_block.specs.Layout.{bucket_in}
 use Rattle.tk_block.proofs.Groups.{end_behind}
 use Rattle.tk_append.specs.Log.{blocks_of}
@@ -51,7 +51,7 @@ loop-change-preserved g c =
           if_both image _ _ _ (so_far.chained number groups heads) links (λ f known linked is are.
           let has = file_heads c.args.head.now f groups is in
           let before = blocks_of c.args.head.now groups in
-          subst (λ (l : List NewHead). Ahead p (with_new l heads) c.chain_key.new.chains.links (place + extent) rest cs c.args.end number before) (sym e.heads)
+          subst (λ (l : List NewHead). Ahead p (with_new l heads) c.chain_key.new.chains.links (place + extent) rest cs c.args.end number before) (sym {A = List NewHead} e.heads)
           (subst (λ (l : List ℕ). Ahead p (with_new (ns ++ n ∷ []) heads) l (place + extent) rest cs c.args.end number before) (sym (linked (omega (arith, has.long, e.below))))
           (chained_more p ns heads c.loop-change.chains.links place extent key x rest cs c.args.end number before f c.key_of.ensures none e.below
           (c.extent_of_change-place.ensures number (is_nil rest)) has are

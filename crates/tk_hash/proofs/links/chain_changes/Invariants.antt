@@ -1,4 +1,4 @@
-use Rattle.std.proofs.Common.{◌≡◌, ◌+◌, ◌-◌, ◌≤◌, ◌^◌, ℕ, List, length, take, drop}
+use Rattle.std.proofs.Common.{◌≡◌, ◌-◌, ◌≤◌, ◌^◌, ℕ, List, length, take, drop}
 use Rattle.std.specs.Prelude.{IfSome}
 use Rattle.tk_model.specs.Records.{AllFit, HasNoClear}
 use Rattle.tk_model.specs.declared.record.Group.{Group}
