@@ -1,8 +1,10 @@
 pub mod Chained
 pub mod Chains
+pub mod BucketReads
 pub mod Buckets
 pub mod Fields
 pub mod Heads
 pub mod InOrder
+pub mod Searches
 pub mod Standing
 pub mod Still
