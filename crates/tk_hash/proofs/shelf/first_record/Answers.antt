@@ -1,4 +1,4 @@
-use Rattle.std.proofs.Common.{◌≡◌, ℕ, ◌+◌, ◌-◌, ◌≤◌, ◌∙◌, List, refl, sym, subst, arith}
+use Rattle.std.proofs.Common.{◌≡◌, ℕ, ◌+◌, ◌∙◌, List, refl, sym, subst, arith}
 use Rattle.std.specs.Prelude.{Option}
 use Rattle.tk_model.specs.Records.{first_within}
 use Rattle.tk_model.specs.declared.record.Order.TheVariants.{Hash}

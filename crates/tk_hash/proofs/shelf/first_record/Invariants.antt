@@ -1,4 +1,4 @@
-use Rattle.std.proofs.Common.{◌≡◌, ℕ, ◌-◌, ◌≤◌, ◌^◌, List}
+use Rattle.std.proofs.Common.{◌≡◌, ◌-◌, ◌≤◌, ◌^◌, List}
 use Rattle.tk_model.specs.declared.record.Group.{Group}
 use Rattle.tk_append.specs.Read.{OnlyReads}
 use Rattle.tk_hash.proofs.Searches.{ToldUp, ShelfKept}

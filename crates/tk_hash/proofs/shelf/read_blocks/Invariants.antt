@@ -1,4 +1,4 @@
-use Rattle.std.proofs.Common.{◌≡◌, ℕ, ◌≤◌, List, length, drop}
+use Rattle.std.proofs.Common.{◌≡◌, ◌≤◌, List, drop}
 use Rattle.std.specs.Prelude.{IfSome}
 use Rattle.tk_block.specs.Layout.{Placed}
 use Rattle.tk_append.specs.Read.{OnlyReads}
