@@ -1,7 +1,7 @@
 ghost use Rattle.std.specs.Prelude.{◌≡◌, ◌≢◌, ◌+◌, ◌*◌, ◌<◌, ◌≤◌, ◌^◌, ◌∷◌, ◌&&◌, ◌-◌, List, ℕ, length, true, nat_le, Some, None, IfOk, IfSome, OnOk, if◌then◌else◌};
 ghost use Rattle.std.specs.Option.{is_some, option_map};
 ghost use Rattle.std.specs.Int.{w64, to_be_bytes};
-ghost use Rattle.tk_disk.specs.Crash.{Torn, Follows, Within, LeavesOnly};
+ghost use Rattle.tk_disk.specs.Crash.{Torn, Follows, Within, Elapses, LeavesOnly};
 ghost use Rattle.tk_disk.specs.Disk.{put_at, HasCause};
 ghost use Rattle.tk_block.specs.Number.{u64_in};
 ghost use Rattle.tk_block.specs.Text.{base_of};
@@ -58,6 +58,7 @@ fn cell_of<D: Disk>(disk: &mut D, cell: u64, place: u64, len: u64) -> Result<Opt
     ensures image { D.image disk.new ≡ D.image disk.old }
     ensures cause { HasCause (D.fault_count disk.old) (D.fault_count disk.new) result }
     ensures crash { Within (D.may_leave disk.old) (D.may_leave disk.new) }
+    ensures time { Elapses (D.moment disk.old) (D.moment disk.new) (D.left_since disk.old) (D.left_since disk.new) (D.may_leave disk.new) }
 {
     let mut at = cell;
     let mut next = number_at(disk, cell)?;
@@ -89,6 +90,8 @@ pub fn unlink<D: Disk>(
     ensures cause { HasCause (D.fault_count disk.old) (D.fault_count disk.new) result }
     ensures crash { (places : List ℕ) → IfSome (D.image disk.old) (λ f. IsChain head.now f bucket places → has_block place places ≡ true
         → Follows (Torn (cell_to (head_cell bucket) place places) 8) (D.may_leave disk.old) (D.may_leave disk.new)) }
+    ensures time { (places : List ℕ) → IfSome (D.image disk.old) (λ f. IsChain head.now f bucket places → has_block place places ≡ true
+        → LeavesOnly D.moment D.left_since disk.old disk.new (λ c. (d : List ℕ) × D.may_leave disk.old d × Torn (cell_to (head_cell bucket) place places) 8 d c)) }
 {
     let len = disk.len()?;
     let Some(cell) = cell_of(disk, 64 + 8 * bucket, place, len)? else {

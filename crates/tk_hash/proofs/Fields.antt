@@ -1,7 +1,7 @@
 -- What is read of a block that stands in a file.
-use Rattle.std.proofs.Common.{◌≡◌, ℕ, zero, ◌+◌, ◌-◌, ◌<◌, ◌≤◌, ◌^◌, List, [], ◌++◌, length, take, drop, replicate, refl, sym, ◌∙◌, ap, subst, arith, append_assoc, length-append}
+use Rattle.std.proofs.Common.{◌≡◌, ℕ, ◌+◌, ◌-◌, ◌<◌, ◌≤◌, ◌^◌, List, [], ◌++◌, length, take, drop, replicate, refl, sym, ◌∙◌, ap, subst, arith, append_assoc, length-append}
 use Rattle.std.specs.Prelude.{slice_index, Option, Some, None, IfSome}
-use Rattle.std.specs.Int.{w16, w32, w64, from_be_bytes, to_be_bytes}
+use Rattle.std.specs.Int.{w16, w32, from_be_bytes, to_be_bytes}
 use Rattle.std.proofs.lemmas.Bool.Decides.{nat_tests}
 use Rattle.std.proofs.lemmas.List.{drop_at, take_at, drop-drop, length-drop}
 use Rattle.tk_model.specs.declared.record.Change.{Change}
@@ -15,7 +15,6 @@ use Rattle.tk_block.proofs.Cells.{within}
 use Rattle.tk_block.proofs.Lengths.{length-block_text, room_fits}
 use Rattle.tk_block.proofs.NewNumber.{key_told, value_told}
 use Rattle.tk_append.specs.Opening.{change_in}
-use Rattle.tk_hash.specs.Linked.{StandsAt}
 use Rattle.tk_hash.specs.Shelf.{StandsIn}
 
 kind_told : (b : Body) (place link : ℕ) (rest : List ℕ) → slice_index (take 48 (block_text b place link ++ rest)) 24 ≡ b.kind

@@ -1,3 +1,4 @@
+pub mod BucketReads
 pub mod Buckets
 pub mod Chained
 pub mod Chains
@@ -17,6 +18,7 @@ pub mod Keeping
 pub mod Looks
 pub mod Once
 pub mod ReadSteps
+pub mod Searches
 pub mod Seen
 pub mod Sought
 pub mod Standing

@@ -1,24 +1,23 @@
 -- The blocks of a bucket, as they are found in the file of groups.
-use Rattle.std.proofs.Common.{◌≡◌, ℕ, ◌+◌, ◌*◌, ◌<◌, ◌≤◌, ◌^◌, Bool, true, false, cond, eqb, List, [], ◌∷◌, ◌++◌, length, refl, sym, ◌∙◌, ap, subst, arith, length-append}
-use Rattle.std.specs.Prelude.{◌==◌, ◌&&◌, ◌||◌}
+use Rattle.std.proofs.Common.{◌≡◌, ℕ, ◌+◌, ◌*◌, ◌<◌, ◌≤◌, ◌^◌, Bool, true, false, cond, List, [], ◌∷◌, ◌++◌, length, refl, ◌∙◌, ap, arith, length-append}
+use Rattle.std.specs.Prelude.{◌==◌}
 use Rattle.tk_model.specs.Records.{replay}
 use Rattle.tk_model.specs.declared.record.Order.TheVariants.{Hash}
 use Rattle.tk_model.specs.declared.record.Group.{Group}
-use Rattle.tk_block.specs.declared.block.Body.{Body}
 use Rattle.tk_block.specs.declared.head.StaticHead.{StaticHead}
 use Rattle.tk_block.specs.Number.{u64_in}
 use Rattle.tk_block.specs.Text.{static_text, closing_text, base_of}
-use Rattle.tk_block.specs.Layout.{Placed, laid, is_in, newest, end_of, bodies_of}
+use Rattle.tk_block.specs.Layout.{Placed, laid, is_in, newest, bodies_of}
 use Rattle.tk_block.proofs.Grammar.{length-static_text, length-closing_text}
-use Rattle.tk_buckets.specs.Chain.{IsWritten, bucket_places, place_step}
+use Rattle.tk_buckets.specs.Chain.{IsWritten, bucket_places}
 use Rattle.tk_append.specs.FileText.{IsFile}
 use Rattle.tk_append.specs.Log.{blocks_of}
 use Rattle.tk_append.specs.Restored.{groups_text}
 use Rattle.tk_append.proofs.Layouts.{end_of-least}
 use Rattle.tk_append.proofs.Reopened.{head_read, newest_laid}
 use Rattle.tk_hash.specs.Chain.{block_step, bucket_blocks, chain_of, in_bucket}
-use Rattle.tk_hash.specs.Linked.{StandsAt, IsChained}
-use Rattle.tk_hash.specs.Shelf.{StandsIn, AllStand, places_in, left_by}
+use Rattle.tk_hash.specs.Linked.{IsChained}
+use Rattle.tk_hash.specs.Shelf.{AllStand, places_in, left_by}
 use Rattle.tk_hash.proofs.Chained.{groups_fit, file_parts, file_chained}
 use Rattle.tk_hash.proofs.Buckets.{left_in_chain}
 

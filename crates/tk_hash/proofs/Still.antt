@@ -1,6 +1,5 @@
 -- Readings one after another leave no more to a crash than the first.
 use Rattle.std.proofs.Common.{inl, ℕ, ◌≤◌, List, arith}
-use Rattle.tk_disk.specs.Crash.{Elapses}
 use Rattle.tk_buckets.proofs.Moments.{time_joined}
 use Rattle.tk_append.specs.Read.{OnlyReads}
 

@@ -60,7 +60,7 @@ fn bytes_at<D: Disk>(
 }
 
 /// The kind of a block, and the lengths of its key and value.
-#[derive(Clone, Copy, Debug)]
+#[derive(Clone, Copy)]
 struct Front {
     kind: u8,
     key: u16,

@@ -1,18 +1,25 @@
 //! The records of one bucket, for going on in hash order.
-ghost use Rattle.std.specs.Prelude.{◌≡◌, ◌≤◌, ℕ, List, [], length, IfOk, IfSome};
+ghost use Rattle.std.specs.Prelude.{◌≡◌, ◌+◌, ◌*◌, ◌<◌, ◌≤◌, ◌^◌, ℕ, List, [], length, true, IfOk, IfSome, OnOk};
+ghost use Rattle.tk_model.specs.Hashes.{bucket_of, mix_of};
 ghost use Rattle.tk_model.specs.Records.{first_within, last_within, replay};
 ghost use Rattle.tk_model.specs.declared.record.Order.TheVariants.{Hash};
 ghost use Rattle.tk_model.specs.declared.record.Group.{Group};
 ghost use Rattle.tk_store.specs.Store.{HasCause, NeverFull};
+ghost use Rattle.tk_block.specs.Layout.{Placed};
 ghost use Rattle.tk_append.specs.FileText.{IsFile};
+ghost use Rattle.tk_append.specs.Hashed.{start_of, end_of};
 ghost use Rattle.tk_append.specs.Read.{OnlyReads};
+ghost use Rattle.tk_hash.specs.Chain.{in_bucket};
 ghost use Rattle.tk_hash.specs.Seek.{IsShelf};
+ghost use Rattle.tk_hash.specs.Shelf.{AllStand, HasBucket, places_in, left_by};
 
+use crate::reading::{change_at, filled_below, next_filled};
 use std::alloc::Global;
 use tk_append::HashedRecords;
 use tk_block::StaticHead;
+use tk_buckets::chain;
 use tk_disk::Disk;
-use tk_model::{Bound, Pair};
+use tk_model::{Bound, NoMemory, Pair, bucket, mix};
 use tk_store::StoreError;
 
 /// The records of a bucket, as they were read.
@@ -20,6 +27,213 @@ use tk_store::StoreError;
 pub(crate) struct Shelf {
     pub bucket: u64,
     pub records: HashedRecords,
+}
+
+/// How many bits of the hash part the records of so many blocks of a bucket, which agree in the first p. More than 20
+/// bits, or many more parts than blocks, would cost more than they save.
+fn bits_for(p: u8, blocks: usize) -> u8
+    ensures { result ≤ 20 }
+{
+    if blocks < 16 {
+        return 0;
+    }
+    let mut bits = 4;
+    while bits < 20 && blocks >> bits > 1 {
+        bits += 1;
+    }
+    20.min(bits + p.min(6))
+}
+
+/// Makes the changes of a chain's blocks, the oldest first.
+fn read_blocks<D: Disk>(
+    alloc: Global,
+    disk: &mut D,
+    places: &[u64],
+    records: &mut HashedRecords,
+) -> Result<(), StoreError>
+    requires { records.old ≡ [] }
+    ensures value { (blocks : List Placed) → IfSome (D.image disk.old) (λ f. AllStand f blocks → places.now ≡ places_in blocks → OnOk result (records.new ≡ left_by blocks)) }
+    ensures image { D.image disk.new ≡ D.image disk.old }
+    ensures still { OnlyReads D.may_leave D.moment D.left_since disk.old disk.new }
+    ensures taken { D.taken_count disk.old ≤ D.taken_count disk.new }
+    ensures cause { HasCause (D.fault_count disk.old) (D.fault_count disk.new) result }
+    ensures never { NeverFull result }
+{
+    for i in (0..places.len()).rev() {
+        let change = change_at(alloc, disk, places[i])?;
+        records.apply(change)?;
+    }
+    Ok(())
+}
+
+/// The records of a bucket.
+fn read_bucket<D: Disk>(
+    alloc: Global,
+    disk: &mut D,
+    head: &StaticHead,
+    bucket: u64,
+) -> Result<HashedRecords, StoreError>
+    requires p { head.now.p ≤ 24 }
+    requires bucket { bucket < 2 ^ head.now.p }
+    ensures value { (groups : List Group) → IfSome (D.image disk.old) (λ f. IsFile head.now f groups → IfOk result (λ r. r ≡ in_bucket head.now.p bucket (replay Hash groups []))) }
+    ensures image { D.image disk.new ≡ D.image disk.old }
+    ensures still { OnlyReads D.may_leave D.moment D.left_since disk.old disk.new }
+    ensures taken { D.taken_count disk.old ≤ D.taken_count disk.new }
+    ensures cause { HasCause (D.fault_count disk.old) (D.fault_count disk.new) result }
+    ensures never { NeverFull result }
+{
+    let places = chain(alloc, disk, head, bucket)?;
+    let mut records = HashedRecords::new(alloc, bits_for(head.p, places.len()))?;
+    read_blocks(alloc, disk, places.as_slice(), &mut records)?;
+    Ok(records)
+}
+
+/// Whether the shelf has the bucket.
+fn has_bucket(shelf: &Option<Shelf>, bucket: u64) -> bool
+    ensures { (h : StaticHead) (groups : List Group) → result ≡ true → IsShelf h groups shelf.now → HasBucket h groups bucket shelf.now }
+{
+    match shelf {
+        Some(held) => held.bucket == bucket,
+        None => false,
+    }
+}
+
+/// Reads the bucket onto the shelf, where it isn't there.
+fn lay<D: Disk>(
+    alloc: Global,
+    disk: &mut D,
+    head: &StaticHead,
+    shelf: &mut Option<Shelf>,
+    bucket: u64,
+) -> Result<(), StoreError>
+    requires p { head.now.p ≤ 24 }
+    requires bucket { bucket < 2 ^ head.now.p }
+    ensures value { (groups : List Group) → IfSome (D.image disk.old) (λ f. IsFile head.now f groups → IsShelf head.now groups shelf.old → OnOk result (HasBucket head.now groups bucket shelf.new)) }
+    ensures shelf { (groups : List Group) → IfSome (D.image disk.old) (λ f. IsFile head.now f groups → IsShelf head.now groups shelf.old → IsShelf head.now groups shelf.new) }
+    ensures image { D.image disk.new ≡ D.image disk.old }
+    ensures still { OnlyReads D.may_leave D.moment D.left_since disk.old disk.new }
+    ensures taken { D.taken_count disk.old ≤ D.taken_count disk.new }
+    ensures cause { HasCause (D.fault_count disk.old) (D.fault_count disk.new) result }
+    ensures never { NeverFull result }
+{
+    if has_bucket(shelf, bucket) {
+        return Ok(());
+    }
+    let records = read_bucket(alloc, disk, head, bucket)?;
+    *shelf = Some(Shelf { bucket, records });
+    Ok(())
+}
+
+fn copy_of(pair: &Pair) -> Result<Pair, NoMemory>
+    ensures { IfOk result (λ copy. copy ≡ pair.now) }
+{
+    Ok(pair.clone()?)
+}
+
+/// The first record on the shelf within the bound, going up.
+fn first_on(shelf: &Option<Shelf>, bound: &Bound) -> Result<Option<Pair>, NoMemory>
+    ensures { IfSome shelf.now (λ s. IfOk result (λ found. found ≡ first_within Hash bound.now s.records)) }
+{
+    let Some(held) = shelf else {
+        return Ok(None);
+    };
+    match held.records.first_within(bound) {
+        Some(pair) => Ok(Some(copy_of(pair)?)),
+        None => Ok(None),
+    }
+}
+
+/// The first record on the shelf within the bound, going down.
+fn last_on(shelf: &Option<Shelf>, bound: &Bound) -> Result<Option<Pair>, NoMemory>
+    ensures { IfSome shelf.now (λ s. IfOk result (λ found. found ≡ last_within Hash bound.now s.records)) }
+{
+    let Some(held) = shelf else {
+        return Ok(None);
+    };
+    match held.records.last_within(bound) {
+        Some(pair) => Ok(Some(copy_of(pair)?)),
+        None => Ok(None),
+    }
+}
+
+/// The first record of a bucket within the bound, going up.
+fn first_in<D: Disk>(
+    alloc: Global,
+    disk: &mut D,
+    head: &StaticHead,
+    shelf: &mut Option<Shelf>,
+    bucket: u64,
+    bound: &Bound,
+) -> Result<Option<Pair>, StoreError>
+    requires p { head.now.p ≤ 24 }
+    requires bucket { bucket < 2 ^ head.now.p }
+    ensures value { (groups : List Group) → IfSome (D.image disk.old) (λ f. IsFile head.now f groups → IsShelf head.now groups shelf.old
+        → IfOk result (λ found. found ≡ first_within Hash bound.now (in_bucket head.now.p bucket (replay Hash groups [])))) }
+    ensures shelf { (groups : List Group) → IfSome (D.image disk.old) (λ f. IsFile head.now f groups → IsShelf head.now groups shelf.old → IsShelf head.now groups shelf.new) }
+    ensures image { D.image disk.new ≡ D.image disk.old }
+    ensures still { OnlyReads D.may_leave D.moment D.left_since disk.old disk.new }
+    ensures taken { D.taken_count disk.old ≤ D.taken_count disk.new }
+    ensures cause { HasCause (D.fault_count disk.old) (D.fault_count disk.new) result }
+    ensures never { NeverFull result }
+{
+    lay(alloc, disk, head, shelf, bucket)?;
+    Ok(first_on(shelf, bound)?)
+}
+
+/// The first record of a bucket within the bound, going down.
+fn last_in<D: Disk>(
+    alloc: Global,
+    disk: &mut D,
+    head: &StaticHead,
+    shelf: &mut Option<Shelf>,
+    bucket: u64,
+    bound: &Bound,
+) -> Result<Option<Pair>, StoreError>
+    requires p { head.now.p ≤ 24 }
+    requires bucket { bucket < 2 ^ head.now.p }
+    ensures value { (groups : List Group) → IfSome (D.image disk.old) (λ f. IsFile head.now f groups → IsShelf head.now groups shelf.old
+        → IfOk result (λ found. found ≡ last_within Hash bound.now (in_bucket head.now.p bucket (replay Hash groups [])))) }
+    ensures shelf { (groups : List Group) → IfSome (D.image disk.old) (λ f. IsFile head.now f groups → IsShelf head.now groups shelf.old → IsShelf head.now groups shelf.new) }
+    ensures image { D.image disk.new ≡ D.image disk.old }
+    ensures still { OnlyReads D.may_leave D.moment D.left_since disk.old disk.new }
+    ensures taken { D.taken_count disk.old ≤ D.taken_count disk.new }
+    ensures cause { HasCause (D.fault_count disk.old) (D.fault_count disk.new) result }
+    ensures never { NeverFull result }
+{
+    lay(alloc, disk, head, shelf, bucket)?;
+    Ok(last_on(shelf, bound)?)
+}
+
+/// The number of buckets.
+fn number_of_buckets(p: u8) -> u64
+    requires { p ≤ 24 }
+    ensures { result ≡ 2 ^ p }
+{
+    1 << p
+}
+
+/// Where a search up begins.
+fn start_at(bound: &Bound, p: u8) -> u64
+    requires { p ≤ 24 }
+    ensures value { result ≡ start_of p bound.now }
+    ensures below { result ≤ 2 ^ p }
+{
+    match bound {
+        Bound::Edge => 0,
+        Bound::Over(key) | Bound::From(key) => bucket(mix(key.as_slice()), p),
+    }
+}
+
+/// Behind where a search down begins.
+fn end_at(bound: &Bound, p: u8) -> u64
+    requires { p ≤ 24 }
+    ensures value { result ≡ end_of p bound.now }
+    ensures below { result ≤ 2 ^ p }
+{
+    match bound {
+        Bound::Edge => number_of_buckets(p),
+        Bound::Over(key) | Bound::From(key) => bucket(mix(key.as_slice()), p) + 1,
+    }
 }
 
 /// The first record within the bound, going up. What was read of its bucket stays on the shelf.
@@ -40,7 +254,16 @@ pub(crate) fn first_record<D: Disk>(
     ensures cause { HasCause (D.fault_count disk.old) (D.fault_count disk.new) result }
     ensures never { NeverFull result }
 {
-    Err(StoreError::NoMemory)
+    let end = number_of_buckets(head.p);
+    let mut bucket = start_at(bound, head.p);
+    while bucket < end {
+        let found = first_in(alloc, disk, head, shelf, bucket, bound)?;
+        if found.is_some() {
+            return Ok(found);
+        }
+        bucket = next_filled(disk, bucket + 1, end)?;
+    }
+    Ok(None)
 }
 
 /// The first record within the bound, going down.
@@ -61,5 +284,13 @@ pub(crate) fn last_record<D: Disk>(
     ensures cause { HasCause (D.fault_count disk.old) (D.fault_count disk.new) result }
     ensures never { NeverFull result }
 {
-    Err(StoreError::NoMemory)
+    let mut end = end_at(bound, head.p);
+    while end > 0 {
+        let found = last_in(alloc, disk, head, shelf, end - 1, bound)?;
+        if found.is_some() {
+            return Ok(found);
+        }
+        end = filled_below(disk, end - 1)?;
+    }
+    Ok(None)
 }

@@ -6,6 +6,7 @@ use Rattle.tk_disk.specs.Crash.{Torn, Follows}
 use Rattle.tk_disk.specs.Disk.{put_at}
 use Rattle.tk_block.specs.Number.{u64_in}
 use Rattle.tk_buckets.proofs.Cuts.{found_in, cell_in, cut_in, cut_written, cut_leaves, nothing_torn, cell_torn}
+use Rattle.tk_buckets.proofs.Moments.{time_joined, cell_only}
 use Rattle.tk_buckets.proofs.linking.unlink.Goals as goal
 
 pub returns-in_default-clause-written : goal.returns-in_default-clause-written
@@ -71,3 +72,33 @@ returns-clause-crash g c = λ places.
     (subst (λ (o : Option (List ℕ)). IfSome o (λ f. c.saturating_add.result + 8 ≤ length f → c.in_ok-link.link ≡ u64_in f c.saturating_add.result)) (c.cell_of.ensures.image ∙ c.len.ensures.image) c.in_ok-link.ensures.value))
     (λ l left. c.len.ensures.crash l (c.cell_of.ensures.crash l (c.number_at.ensures.crash l left)))
     (subst (λ (l : List ℕ). Follows (Torn c.in-Some.cell (length l)) (g.D.Disk.may_leave c.number_at.new.disk) (g.D.Disk.may_leave c.write_at.new.self)) c.to_be_bytes.ensures c.write_at.ensures.crash)
+
+pub returns-in_err-len-clause-time : goal.returns-in_err-len-clause-time
+returns-in_err-len-clause-time g c = λ places.
+    cell_only g.D.Disk.may_leave g.D.Disk.moment g.D.Disk.left_since g.met.D.Disk.only_now (g.D.Disk.image c.args.disk.now) c.args.head.now c.args.bucket c.args.place places c.args.disk.now c.len.new.self
+    c.len.ensures.time
+    (returns-in_err-len-clause-crash g c places)
+
+pub returns-in_err-cell-clause-time : goal.returns-in_err-cell-clause-time
+returns-in_err-cell-clause-time g c = λ places.
+    cell_only g.D.Disk.may_leave g.D.Disk.moment g.D.Disk.left_since g.met.D.Disk.only_now (g.D.Disk.image c.args.disk.now) c.args.head.now c.args.bucket c.args.place places c.args.disk.now c.cell_of.new.disk
+    (time_joined g.D.Disk.may_leave g.D.Disk.moment g.D.Disk.left_since g.met.D.Disk.counts_now c.args.disk.now c.len.new.self c.cell_of.new.disk c.len.ensures.crash c.len.ensures.time c.cell_of.ensures.time)
+    (returns-in_err-cell-clause-crash g c places)
+
+pub returns-in_default-clause-time : goal.returns-in_default-clause-time
+returns-in_default-clause-time g c = λ places.
+    cell_only g.D.Disk.may_leave g.D.Disk.moment g.D.Disk.left_since g.met.D.Disk.only_now (g.D.Disk.image c.args.disk.now) c.args.head.now c.args.bucket c.args.place places c.args.disk.now c.cell_of.new.disk
+    (time_joined g.D.Disk.may_leave g.D.Disk.moment g.D.Disk.left_since g.met.D.Disk.counts_now c.args.disk.now c.len.new.self c.cell_of.new.disk c.len.ensures.crash c.len.ensures.time c.cell_of.ensures.time)
+    (returns-in_default-clause-crash g c places)
+
+pub returns-in_err-link-clause-time : goal.returns-in_err-link-clause-time
+returns-in_err-link-clause-time g c = λ places.
+    cell_only g.D.Disk.may_leave g.D.Disk.moment g.D.Disk.left_since g.met.D.Disk.only_now (g.D.Disk.image c.args.disk.now) c.args.head.now c.args.bucket c.args.place places c.args.disk.now c.number_at.new.disk
+    (time_joined g.D.Disk.may_leave g.D.Disk.moment g.D.Disk.left_since g.met.D.Disk.counts_now c.args.disk.now c.cell_of.new.disk c.number_at.new.disk (λ l left. c.len.ensures.crash l (c.cell_of.ensures.crash l left)) (time_joined g.D.Disk.may_leave g.D.Disk.moment g.D.Disk.left_since g.met.D.Disk.counts_now c.args.disk.now c.len.new.self c.cell_of.new.disk c.len.ensures.crash c.len.ensures.time c.cell_of.ensures.time) c.number_at.ensures.time)
+    (returns-in_err-link-clause-crash g c places)
+
+pub returns-clause-time : goal.returns-clause-time
+returns-clause-time g c = λ places.
+    cell_only g.D.Disk.may_leave g.D.Disk.moment g.D.Disk.left_since g.met.D.Disk.only_now (g.D.Disk.image c.args.disk.now) c.args.head.now c.args.bucket c.args.place places c.args.disk.now c.write_at.new.self
+    (time_joined g.D.Disk.may_leave g.D.Disk.moment g.D.Disk.left_since g.met.D.Disk.counts_now c.args.disk.now c.number_at.new.disk c.write_at.new.self (λ l left. c.len.ensures.crash l (c.cell_of.ensures.crash l (c.number_at.ensures.crash l left))) (time_joined g.D.Disk.may_leave g.D.Disk.moment g.D.Disk.left_since g.met.D.Disk.counts_now c.args.disk.now c.cell_of.new.disk c.number_at.new.disk (λ l left. c.len.ensures.crash l (c.cell_of.ensures.crash l left)) (time_joined g.D.Disk.may_leave g.D.Disk.moment g.D.Disk.left_since g.met.D.Disk.counts_now c.args.disk.now c.len.new.self c.cell_of.new.disk c.len.ensures.crash c.len.ensures.time c.cell_of.ensures.time) c.number_at.ensures.time) c.write_at.ensures.time)
+    (returns-clause-crash g c places)

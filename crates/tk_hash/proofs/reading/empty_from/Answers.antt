@@ -1,4 +1,4 @@
-use Rattle.std.proofs.Common.{arith, rules}
+use Rattle.std.proofs.Common.{arith}
 use Rattle.tk_hash.proofs.Heads.{told_empty}
 use Rattle.tk_hash.proofs.reading.empty_from.Goals as goal
 

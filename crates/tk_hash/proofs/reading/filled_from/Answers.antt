@@ -1,4 +1,4 @@
-use Rattle.std.proofs.Common.{arith, rules}
+use Rattle.std.proofs.Common.{rules}
 use Rattle.tk_hash.proofs.Heads.{told_filled}
 use Rattle.tk_hash.proofs.reading.filled_from.Goals as goal
 

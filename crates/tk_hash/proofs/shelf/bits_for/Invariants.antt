@@ -1,0 +1,8 @@
+use Rattle.std.proofs.Common.{◌-◌, ◌≤◌}
+use Rattle.tk_hash.proofs.shelf.bits_for.Given as goal
+
+abbrev pub invariant-loop-bits : goal.invariant-loop-bits
+invariant-loop-bits l = l.bits ≤ 20
+
+abbrev pub decreases-loop-bits : goal.decreases-loop-bits
+decreases-loop-bits l = 20 - l.bits
