@@ -11,7 +11,7 @@ use Rattle.tk_model.specs.declared.record.Pair.{Pair}
 use Rattle.tk_model.specs.declared.record.Group.{Group}
 use Rattle.tk_model.specs.declared.record.Change.{Change}
 use Rattle.tk_model.specs.Records.{after, replay, AllFit, IsClearAlone}
-use Rattle.tk_store.specs.Store.{Nature, First, Groups, floor_after, made, extents_need, extent_of}
+use Rattle.tk_store.specs.Store.{Nature, First, Groups, floor_after, made, extents_need, extent_of, UnlessFault}
 use Rattle.tk_store.specs.declared.error.StoreError.{StoreError}
 use Rattle.tk_store.specs.declared.error.StoreError.TheVariants as errors
 use Rattle.tk_disk.specs.declared.disk.DiskError.{DiskError}
@@ -106,6 +106,13 @@ same_mapped None None x told = refl
 same_mapped None (Some b) x told = absurd (cc)
 same_mapped (Some a) None x told = absurd (cc)
 same_mapped (Some a) (Some b) x told = refl
+
+-- what holds of every answer
+pub unless_fault : {T P : Type 0} (r : Result T StoreError) → P → UnlessFault r P
+unless_fault (Ok v) p = p
+unless_fault (Err errors.Fault) p = tt
+unless_fault (Err (errors.Full size need limit)) p = p
+unless_fault (Err errors.NoMemory) p = p
 
 -- one of two files, by how the store was opened
 pub as_written : (writable : Bool) (o n : Option (List ℕ)) (a b : List ℕ) → writable ≡ true → IfSome o (λ _. n ≡ Some a) → IfSome o (λ _. n ≡ Some (if writable then a else b))
