@@ -49,7 +49,7 @@ count_more None (Some g) P A B told file was go = absurd (cc)
 count_more (Some f) None P A B told file was go = tt
 count_more (Some f) (Some g) P A B told file was go = go file was
 
-shelf_none : (o : Option (List ℕ)) (h : StaticHead) (groups : List Group) (shelf : Option Shelf) → shelf ≡ None → IfSome o (λ f. IsShelf h groups shelf)
+pub shelf_none : (o : Option (List ℕ)) (h : StaticHead) (groups : List Group) (shelf : Option Shelf) → shelf ≡ None → IfSome o (λ f. IsShelf h groups shelf)
 shelf_none None h groups shelf is = tt
 shelf_none (Some f) h groups shelf is = subst (λ (x : Option Shelf). IsShelf h groups x) (sym is) tt
 
@@ -58,7 +58,7 @@ still_some None g = refl
 still_some (Some f) g = refl
 
 -- what a sync leaves
-only_kept : (o : Option (List ℕ)) (h : StaticHead) (groups : List Group) (may : List ℕ → Type 0) → IfSome o (λ f. IsFile h f groups) → IfSome o (λ f. Only f may) → IfSome o (λ f. (c : List ℕ) → may c → IsKept h groups c)
+pub only_kept : (o : Option (List ℕ)) (h : StaticHead) (groups : List Group) (may : List ℕ → Type 0) → IfSome o (λ f. IsFile h f groups) → IfSome o (λ f. Only f may) → IfSome o (λ f. (c : List ℕ) → may c → IsKept h groups c)
 only_kept None h groups may file only = tt
 only_kept (Some f) h groups may file only = λ c left. subst (λ (x : List ℕ). IsKept h groups x) (sym (only c left)) (file_kept h f groups file)
 

@@ -1,5 +1,6 @@
 pub mod Extents
 pub mod HashGrows
 pub mod HashKeeps
+pub mod HashOpens
 pub mod HashTexts
 pub mod Keeping
