@@ -2,6 +2,9 @@
 use Rattle.std.proofs.Common.{◌≡◌, ◌⊎◌, ℕ, ◌+◌, ◌*◌, ◌%◌, ◌<◌, ◌≤◌, ◌^◌, Bool, true, false, List, [], ◌++◌, length, take, refl, sym, ◌∙◌, ap, subst, arith}
 use Rattle.std.specs.Prelude.{Option, Some, None, IfSome, Result, Ok, Err, IfOk, IfErr}
 use Rattle.std.specs.Option.{option_map, is_some}
+use Rattle.std.proofs.lemmas.Bool.Decides.{nat_tests}
+use Rattle.std.proofs.Math.Nat.{mod-eq_of_lt}
+use Rattle.std.proofs.Math.Pow.{pow_mono}
 use Rattle.std.proofs.lemmas.List.{append-nil}
 use Rattle.std.proofs.lemmas.Option.{IfSome_then}
 use Rattle.tk_disk.specs.Crash.{Only}
@@ -41,6 +44,20 @@ err_weaker (Err e) P Q go p = go e p
 closing_of : (c : Closing) (size count next : ℕ) → c.size ≡ size → c.count ≡ count → c.next ≡ next → c ≡ record { size = size; count = count; next = next }
 closing_of c size count next a b d =
     ap (λ (n : ℕ). record c { size = n }) a ∙ ap (λ (n : ℕ). record c { size = size; count = n }) b ∙ ap (λ (n : ℕ). record c { size = size; count = count; next = n }) d
+
+-- the heads of so many buckets are few enough bytes
+heads_shifted : (p : ℕ) → p ≤ 24 → (8 * 2 ^ p) % 2 ^ 64 ≡ 8 * 2 ^ p
+heads_shifted p small = let few : 2 ^ p ≤ 2 ^ 24 = pow_mono small in mod-eq_of_lt (omega (arith, few))
+
+base_small : (p : ℕ) → p ≤ 24 → base_of p < 2 ^ 64
+base_small p small = let few : 2 ^ p ≤ 2 ^ 24 = pow_mono small in omega (arith, few)
+
+-- the header of a file that is made
+abbrev pub fresh : (p : ℕ) → StaticHead
+fresh p = record { kind = 1; version = 1; p = p; order = 0; generation = 0 }
+
+static_fresh : (p : ℕ) → p ≤ 24 → is_static (fresh p) ≡ true
+static_fresh p small = grind (arith, nat_tests)
 
 written_there : (new old : Option (List ℕ)) (h : StaticHead) (size : ℕ) → size ≡ base_of h.p → is_some new ≡ is_some old → IfSome old (λ _. new ≡ Some (closed_text h [] 0)) → IfSome new (λ f. f ≡ text_of h (record { size = size; count = 0; next = 0 }) [])
 written_there None old h size is told written = tt
@@ -114,16 +131,19 @@ module _ {D : Type 0} (image : D → Option (List ℕ)) (may_leave : D → List 
   }
 
   -- a file that was made
-  pub fresh_log : (disk : D) (old : Option (List ℕ)) (log : GroupLog D) (h : StaticHead) (size : ℕ) → log_disk log ≡ disk → log_head log ≡ h → log_end log ≡ size → is_static h ≡ true → h.generation < 2 ^ 64 → size ≡ base_of h.p → size < 2 ^ 64
-      → is_some (image disk) ≡ is_some old → IfSome old (λ _. image disk ≡ Some (closed_text h [] 0)) → IsClosedLog image log (record { size = size; count = 0; next = 0 }) []
-  fresh_log disk old log h size at head end static generation is fits told written = record {
-    header = rw head static;
-    generation = rw head generation;
-    legal = omega arith;
-    number = omega arith;
-    size = sym end;
-    fits = rw end fits;
-    count = refl;
-    end_is = rw (end, head) is;
-    text = rw (at, head) (written_there (image disk) old h size is told written);
-  }
+  pub fresh_log : (disk : D) (old : Option (List ℕ)) (log : GroupLog D) (p : ℕ) → p ≤ 24 → log_disk log ≡ disk → log_head log ≡ fresh p → log_end log ≡ 64 + (8 * 2 ^ p) % 2 ^ 64
+      → is_some (image disk) ≡ is_some old → IfSome old (λ _. image disk ≡ Some (closed_text (fresh p) [] 0)) → IsClosedLog image log (record { size = 64 + (8 * 2 ^ p) % 2 ^ 64; count = 0; next = 0 }) []
+  fresh_log disk old log p small at head end told written =
+      let size = 64 + (8 * 2 ^ p) % 2 ^ 64 in
+      let is : size ≡ base_of p = ap (λ (n : ℕ). 64 + n) (heads_shifted p small) in
+      record {
+        header = rw head (static_fresh p small);
+        generation = rw head (omega arith);
+        legal = omega arith;
+        number = omega arith;
+        size = sym end;
+        fits = omega (arith, end, is, base_small p small);
+        count = refl;
+        end_is = rw head (end ∙ is);
+        text = rw (at, head) (written_there (image disk) old (fresh p) size is told written);
+      }
