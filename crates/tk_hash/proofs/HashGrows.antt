@@ -1,6 +1,6 @@
 -- A hash store after a group, after a sync, and after another closing part.
 use Rattle.std.proofs.Common.{◌≡◌, ◌⊎◌, inl, inr, ℕ, ◌+◌, ◌<◌, ◌≤◌, ◌^◌, Bool, true, false, List, [], ◌∷◌, ◌++◌, length, take, drop, refl, sym, ◌∙◌, ap, subst, arith, length-append, append_assoc}
-use Rattle.std.specs.Prelude.{◌≢◌, Option, Some, None, IfSome, if◌then◌else◌}
+use Rattle.std.specs.Prelude.{◌≢◌, Option, Some, None, IfSome, MatchOption, Result, Ok, Err, OnOk, OnErr, if◌then◌else◌, sum_by}
 use Rattle.std.specs.Option.{option_map, is_some}
 use Rattle.std.proofs.lemmas.List.{append-nil, take_all, take-append-le}
 use Rattle.std.proofs.lemmas.Option.{IfSome_then}
@@ -11,7 +11,10 @@ use Rattle.tk_model.specs.declared.record.Pair.{Pair}
 use Rattle.tk_model.specs.declared.record.Group.{Group}
 use Rattle.tk_model.specs.declared.record.Change.{Change}
 use Rattle.tk_model.specs.Records.{after, replay, AllFit, IsClearAlone}
-use Rattle.tk_store.specs.Store.{First, Groups, floor_after}
+use Rattle.tk_store.specs.Store.{Nature, First, Groups, floor_after, made, extents_need, extent_of, UnlessFault}
+use Rattle.tk_store.specs.declared.error.StoreError.{StoreError}
+use Rattle.tk_store.specs.declared.error.StoreError.TheVariants as errors
+use Rattle.tk_disk.specs.declared.disk.DiskError.{DiskError}
 use Rattle.tk_store.proofs.Mem.{replay_more, floor_more}
 use Rattle.tk_block.specs.declared.head.StaticHead.{StaticHead}
 use Rattle.tk_block.specs.declared.closing.Closing.{Closing}
@@ -21,17 +24,19 @@ use Rattle.tk_block.specs.Layout.{end_of, bodies_of, group_text}
 use Rattle.tk_block.proofs.Groups.{end_behind}
 use Rattle.tk_append.specs.Log.{AreGroups, closed_text}
 use Rattle.tk_append.specs.LogParts.{log_disk, log_head, log_end, with_closing}
-use Rattle.tk_append.specs.FileText.{text_of, IsFile}
+use Rattle.tk_append.specs.FileText.{text_of, text_with, IsFile}
 use Rattle.tk_append.specs.Restored.{IsKept}
 use Rattle.tk_append.proofs.LogSteps.{end_more}
 use Rattle.tk_append.proofs.Restoring.{file_kept}
-use Rattle.tk_hash.specs.Hash.{groups_held, floor_of, opening, KeepsGroups, IsStaged, HashStands}
+use Rattle.tk_hash.specs.Hash.{groups_held, floor_of, opening, map_in, KeepsGroups, IsStaged, HashPrepared, HashStands, HashStood}
 use Rattle.tk_hash.specs.HashLaws.{groups_joined, length-text_of, is_file, all_legal, kept_held, file_of}
 use Rattle.tk_hash.specs.declared.store.HashStore.{HashStore}
 use Rattle.tk_hash.specs.declared.store.Staged.{Staged}
+use Rattle.tk_hash.specs.declared.plan.NewHeads.{NewHeads}
+use Rattle.tk_hash.specs.Plan.{with_heads}
 use Rattle.tk_hash.specs.declared.shelf.Shelf.{Shelf}
 use Rattle.tk_hash.specs.Seek.{IsShelf}
-use Rattle.tk_hash.proofs.HashKeeps.{SameFile, KeepsShelf, carried, rested, shelf_same}
+use Rattle.tk_hash.proofs.HashKeeps.{SameFile, KeepsShelf, carried, rested, shelf_same, done, map_is}
 use Rattle.tk_hash.proofs.HashTexts.{PutsHeads, file_more, closed_there, closed_now, closed_still}
 
 -- a header's p
@@ -44,7 +49,7 @@ count_more None (Some g) P A B told file was go = absurd (cc)
 count_more (Some f) None P A B told file was go = tt
 count_more (Some f) (Some g) P A B told file was go = go file was
 
-shelf_none : (o : Option (List ℕ)) (h : StaticHead) (groups : List Group) (shelf : Option Shelf) → shelf ≡ None → IfSome o (λ f. IsShelf h groups shelf)
+pub shelf_none : (o : Option (List ℕ)) (h : StaticHead) (groups : List Group) (shelf : Option Shelf) → shelf ≡ None → IfSome o (λ f. IsShelf h groups shelf)
 shelf_none None h groups shelf is = tt
 shelf_none (Some f) h groups shelf is = subst (λ (x : Option Shelf). IsShelf h groups x) (sym is) tt
 
@@ -53,12 +58,70 @@ still_some None g = refl
 still_some (Some f) g = refl
 
 -- what a sync leaves
-only_kept : (o : Option (List ℕ)) (h : StaticHead) (groups : List Group) (may : List ℕ → Type 0) → IfSome o (λ f. IsFile h f groups) → IfSome o (λ f. Only f may) → IfSome o (λ f. (c : List ℕ) → may c → IsKept h groups c)
+pub only_kept : (o : Option (List ℕ)) (h : StaticHead) (groups : List Group) (may : List ℕ → Type 0) → IfSome o (λ f. IsFile h f groups) → IfSome o (λ f. Only f may) → IfSome o (λ f. (c : List ℕ) → may c → IsKept h groups c)
 only_kept None h groups may file only = tt
 only_kept (Some f) h groups may file only = λ c left. subst (λ (x : List ℕ). IsKept h groups x) (sym (only c left)) (file_kept h f groups file)
 
 take_whole : (since : List Group) → take (length since) since ≡ since
 take_whole since = take_all (length since) since (omega arith)
+
+-- a file that only grew has its heads
+pub still_there : (old new : Option (List ℕ)) (end base : ℕ) (text : List ℕ) → IfSome old (λ f. length f ≡ end) → base ≤ end → new ≡ option_map (λ f. f ++ text) old → IfSome new (λ f. base ≤ length f)
+still_there None new end base text here low is = subst (λ (o : Option (List ℕ)). IfSome o (λ f. base ≤ length f)) (sym is) tt
+still_there (Some f) new end base text here low is = subst (λ (o : Option (List ℕ)). IfSome o (λ f. base ≤ length f)) (sym is) (omega (arith, here, low, length-append f text))
+
+-- new heads that were told as written were written
+pub puts_done : {T : Type 0} (answer : Result T DiskError) (result : Result T StoreError) (v : T) (mid new : Option (List ℕ)) (h k : StaticHead) (fresh : NewHeads) → k ≡ h → OnErr answer (result ≡ Err errors.Fault) → result ≡ Ok v
+    → ((c : Closing) (old : List ℕ) (groups : List Group) → IfSome mid (λ f. f ≡ text_with k c old groups → length old ≡ 2 ^ k.p → OnOk answer (new ≡ Some (text_with k c (with_heads fresh old) groups)))) → PutsHeads mid new h fresh
+puts_done answer result v mid new h k fresh same err is written =
+    subst (λ (x : StaticHead). PutsHeads mid new x fresh) same
+    (λ c old groups. IfSome_then mid (written c old groups) (λ f go file long. done answer result v err is (go file long)))
+
+-- what waits is what was prepared
+prepared_is : {A : Type 0} (o : Option A) (g : A) (P : A → Type 0) (Q : Type 0) → o ≡ Some g → MatchOption o Q P → P g
+prepared_is None g P Q found is = absurd (cc)
+prepared_is (Some h) g P Q found is = let same : h ≡ g = cc in subst P same is
+
+pub may_write : (writable : Bool) (cs : List Change) → (writable ≡ false → cs ≡ []) → cs ≢ [] → writable ≡ true
+may_write true cs only some = refl
+may_write false cs only some = absurd (some (only refl))
+
+-- a list of changes makes one group
+pub one_made : (nature : Nature) (n : ℕ) (cs : List Change) → cs ≢ [] → record { number = n; changes = cs } ∷ [] ≡ made nature n cs
+one_made nature n [] some = absurd (some refl)
+one_made nature n (c ∷ cs) some = refl
+
+pub sum_is : (nature : Nature) (cs : List Change) → cs ≢ [] → extents_need nature 1 cs ≡ sum_by (extent_of 1) cs
+sum_is nature [] some = absurd (some refl)
+sum_is nature (c ∷ cs) some = refl
+
+two_mapped : {A B C : Type 0} (o p : Option A) (x : B) (y : C) (g : B → C) → is_some p ≡ is_some o → y ≡ g x → option_map (λ a. y) p ≡ option_map g (option_map (λ a. x) o)
+two_mapped None None x y g told is = refl
+two_mapped None (Some b) x y g told is = absurd (cc)
+two_mapped (Some a) None x y g told is = absurd (cc)
+two_mapped (Some a) (Some b) x y g told is = ap Some is
+
+same_mapped : {A B : Type 0} (o p : Option A) (x : B) → is_some p ≡ is_some o → option_map (λ a. x) p ≡ option_map (λ a. x) o
+same_mapped None None x told = refl
+same_mapped None (Some b) x told = absurd (cc)
+same_mapped (Some a) None x told = absurd (cc)
+same_mapped (Some a) (Some b) x told = refl
+
+-- what holds of every answer
+pub unless_fault : {T P : Type 0} (r : Result T StoreError) → P → UnlessFault r P
+unless_fault (Ok v) p = p
+unless_fault (Err errors.Fault) p = tt
+unless_fault (Err (errors.Full size need limit)) p = p
+unless_fault (Err errors.NoMemory) p = p
+
+-- one of two files, by how the store was opened
+pub as_written : (writable : Bool) (o n : Option (List ℕ)) (a b : List ℕ) → writable ≡ true → IfSome o (λ _. n ≡ Some a) → IfSome o (λ _. n ≡ Some (if writable then a else b))
+as_written true o n a b may is = is
+as_written false o n a b may is = absurd (cc)
+
+pub as_read : (writable : Bool) (o n : Option (List ℕ)) (a b : List ℕ) → writable ≡ false → IfSome o (λ _. n ≡ Some b) → IfSome o (λ _. n ≡ Some (if writable then a else b))
+as_read true o n a b may is = absurd (cc)
+as_read false o n a b may is = is
 
 -- the same parts make the same closing part
 pub closing_by : (a b count next : ℕ) (c : Closing) → c ≡ record { size = a; count = count; next = next } → a ≡ b → c ≡ record { size = b; count = count; next = next }
@@ -93,6 +156,45 @@ module _ {D : Type 0} (image : D → Option (List ℕ)) (may_leave : D → List 
     -- where its groups end
     pub groups_end : log_end s.log ≡ end_of (base_of (log_head s.log).p) (bodies_of (groups_held first.held ++ since))
     groups_end = subst (λ (gs : List Group). log_end s.log ≡ end_of (base_of (log_head s.log).p) (bodies_of (gs ++ since))) (sym (ap groups_held st.held)) st.end_is
+
+  -- what is staged
+  pub staged_is : (s : HashStore D) (g : Staged) (cs : List Change) → s.staged ≡ Some g → HashPrepared image s cs → IsStaged image s cs g
+  staged_is s g cs found p = prepared_is s.staged g (IsStaged image s cs) (cs ≡ []) found p.staged
+
+  pub staged_still : (s : HashStore D) (o : Option Staged) (cs : List Change) (g : Staged) → IsStaged image s cs g → IsStaged image (record s { staged = o }) cs g
+  staged_still s o cs g is = record {
+    some = is.some;
+    heads = is.heads;
+    links = is.links;
+    ready = is.ready;
+    ends = is.ends;
+    links_are = is.links_are;
+    heads_are = is.heads_are;
+    count_is = is.count_is;
+  }
+
+  -- the records after a group, and without one
+  pub map_more : (s t : HashStore D) (n : ℕ) (cs : List Change) (first : First) (since : List Group) (hard : ℕ) → is_some (image (log_disk t.log)) ≡ is_some (image (log_disk s.log)) → HashStands image may_leave s first since hard
+      → HashStands image may_leave t first (since ++ record { number = n; changes = cs } ∷ []) hard → map_in image t ≡ option_map (after Hash cs) (map_in image s)
+  map_more s t n cs first since hard told old new =
+      let more : Group = record { number = n; changes = cs } in
+      map_is image may_leave t first (since ++ more ∷ []) hard new
+      ∙ two_mapped (image (log_disk s.log)) (image (log_disk t.log)) (replay Hash since first.records) (replay Hash (since ++ more ∷ []) first.records) (after Hash cs) told (replay_more Hash since more first.records)
+      ∙ ap (λ (m : Option (List Pair)). option_map (after Hash cs) m) (sym (map_is image may_leave s first since hard old))
+
+  pub map_kept : (s t : HashStore D) (first : First) (since : List Group) (hard now : ℕ) → is_some (image (log_disk t.log)) ≡ is_some (image (log_disk s.log)) → HashStands image may_leave s first since hard → HashStands image may_leave t first since now
+      → map_in image t ≡ map_in image s
+  map_kept s t first since hard now told old new =
+      map_is image may_leave t first since now new ∙ same_mapped (image (log_disk s.log)) (image (log_disk t.log)) (replay Hash since first.records) told ∙ sym (map_is image may_leave s first since hard old)
+
+  pub stood_staged : (moment : D → ℕ) (left_since : D → ℕ → List ℕ → Type 0) (s : HashStore D) (o : Option Staged) (b : Bool) (since_when n : ℕ) (first : First) (since : List Group) (hard : ℕ) → HashStood image may_leave moment left_since s since_when n first since hard
+      → HashStood image may_leave moment left_since (record s { staged = o; closed = b }) since_when n first since hard
+  stood_staged moment left_since s o b since_when n first since hard st = record {
+    stands = restaged s first since hard st.stands o b;
+    safe = record { within = st.safe.within; each = st.safe.each };
+    least = st.least;
+    before = st.before;
+  }
 
   -- the file that a store closes
   pub closed_file : (s : HashStore D) (new : Option (List ℕ)) (next : ℕ) (groups since : List Group) (hard : ℕ) → HashStands image may_leave s (opening groups) since hard

@@ -187,6 +187,9 @@ module _ {D : Type 0} (image : D → Option (List ℕ)) (may_leave : D → List 
     pub still_at : (lent old new : D) → lent ≡ old → OnlyReads may_leave moment left_since lent new → OnlyReads may_leave moment left_since old new
     still_at lent old new at still = subst (λ (d : D). OnlyReads may_leave moment left_since d new) at still
 
+    pub still_on : (lent old new last : D) → lent ≡ old → last ≡ new → OnlyReads may_leave moment left_since lent new → OnlyReads may_leave moment left_since old last
+    still_on lent old new last at same still = subst (λ (d : D). OnlyReads may_leave moment left_since old d) (sym same) (still_at lent old new at still)
+
     -- what is safe stays so where the groups that were synchronised are kept
     pub safe_on : (s t : HashStore D) (since_when n : ℕ) (first : First) (since : List Group) (hard : ℕ) → HashStood image may_leave moment left_since s since_when n first since hard → log_head t.log ≡ log_head s.log → t.writable ≡ s.writable
         → is_some (image (log_disk t.log)) ≡ is_some (image (log_disk s.log)) → KeepsGroups may_leave moment left_since (log_head s.log) (groups_held first.held ++ take hard since) (log_disk s.log) (log_disk t.log)

@@ -10,6 +10,7 @@ pub mod Fronts
 pub mod GroupChained
 pub mod HashGrows
 pub mod HashKeeps
+pub mod HashOpens
 pub mod HashTexts
 pub mod HeadTexts
 pub mod Heads

@@ -1,0 +1,80 @@
+use Rattle.std.proofs.Common.{rules, ◌≡◌, ◌+◌, ◌*◌, ◌<◌, ◌≤◌, ◌^◌, ◌++◌, ℕ, List, length, take, inl, inr, refl, sym, ◌∙◌, ap, subst, arith}
+use Rattle.std.specs.Prelude.{Option, Some}
+use Rattle.std.specs.Option.{option_map}
+use Rattle.tk_model.specs.declared.record.Group.{Group}
+use Rattle.tk_block.specs.declared.head.StaticHead.{StaticHead}
+use Rattle.tk_block.specs.Text.{base_of}
+use Rattle.tk_append.specs.LogParts.{log_disk, log_head, log_end}
+use Rattle.tk_hash.specs.Hash.{groups_held}
+use Rattle.tk_hash.proofs.Extents.{ends_sum}
+use Rattle.tk_hash.proofs.Keeping.{front_ends, keeps_torn, keeps_joined}
+use Rattle.tk_hash.proofs.HashKeeps.{done}
+use Rattle.tk_hash.proofs.HashGrows.{grown, groups_end, length_there, base_within, still_there, puts_done}
+use Rattle.tk_hash.proofs.store.HashStore.put_staged.Goals as goal
+
+pub append-requires-clause-here : goal.append-requires-clause-here
+append-requires-clause-here g c =
+    let w = c.requires.whole in
+    length_there g.D.Disk.image g.D.Disk.may_leave c.args.self.now w.0 w.1 w.2 w.3
+
+pub returns-in_err-told-clause-kept : goal.returns-in_err-told-clause-kept
+returns-in_err-told-clause-kept g c first since hard st =
+    let s = c.args.self.now in
+    let is = c.requires.staged.1 in
+    keeps_torn g.D.Disk.may_leave g.D.Disk.moment g.D.Disk.left_since (log_head s.log) (groups_held first.held ++ take hard since) _ _ _ _
+    (inr (front_ends (log_head s.log) (groups_held first.held) since hard (log_end s.log) (groups_end g.D.Disk.image g.D.Disk.may_leave s first since hard st)))
+    (c.append.ensures.crash c.requires.staged.0 is.links is.ready) (c.append.ensures.time c.requires.staged.0 is.links is.ready)
+
+pub put_heads-requires-clause-there : goal.put_heads-requires-clause-there
+put_heads-requires-clause-there g c =
+    let w = c.requires.whole in
+    let s = c.args.self.now in
+    let is = c.requires.staged.1 in
+    rw c.append.ensures.head (still_there (g.D.Disk.image (log_disk s.log)) _ (log_end s.log) (base_of (log_head s.log).p) _ (length_there g.D.Disk.image g.D.Disk.may_leave s w.0 w.1 w.2 w.3) (base_within g.D.Disk.image g.D.Disk.may_leave s w.0 w.1 w.2 w.3)
+    (done c.append.result c.told.result c.in_ok-told.field-0 c.told.ensures.err (search rules) (c.append.ensures.written c.requires.staged.0 is.links is.ready)))
+
+pub returns-in_err-told-2-clause-kept : goal.returns-in_err-told-2-clause-kept
+returns-in_err-told-2-clause-kept g c first since hard st =
+    let s = c.args.self.now in
+    let is = c.requires.staged.1 in
+    let within : 64 + 8 * 2 ^ (log_head c.append.new.self).p ≤ base_of (log_head s.log).p = subst (λ (k : StaticHead). 64 + 8 * 2 ^ k.p ≤ base_of (log_head s.log).p) (sym c.append.ensures.head) (omega arith) in
+    keeps_joined g.D.Disk.may_leave g.D.Disk.moment g.D.Disk.left_since (log_head s.log) (groups_held first.held ++ take hard since) _ _ _
+    (keeps_torn g.D.Disk.may_leave g.D.Disk.moment g.D.Disk.left_since (log_head s.log) (groups_held first.held ++ take hard since) _ _ _ _
+    (inr (front_ends (log_head s.log) (groups_held first.held) since hard (log_end s.log) (groups_end g.D.Disk.image g.D.Disk.may_leave s first since hard st)))
+    (c.append.ensures.crash c.requires.staged.0 is.links is.ready) (c.append.ensures.time c.requires.staged.0 is.links is.ready))
+    (keeps_torn g.D.Disk.may_leave g.D.Disk.moment g.D.Disk.left_since (log_head s.log) (groups_held first.held ++ take hard since) _ _ _ _ (inl (omega arith, within)) c.put_heads.ensures.crash c.put_heads.ensures.time)
+
+pub returns-clause-kept : goal.returns-clause-kept
+returns-clause-kept g c first since hard st =
+    let s = c.args.self.now in
+    let is = c.requires.staged.1 in
+    let within : 64 + 8 * 2 ^ (log_head c.append.new.self).p ≤ base_of (log_head s.log).p = subst (λ (k : StaticHead). 64 + 8 * 2 ^ k.p ≤ base_of (log_head s.log).p) (sym c.append.ensures.head) (omega arith) in
+    keeps_joined g.D.Disk.may_leave g.D.Disk.moment g.D.Disk.left_since (log_head s.log) (groups_held first.held ++ take hard since) _ _ _
+    (keeps_torn g.D.Disk.may_leave g.D.Disk.moment g.D.Disk.left_since (log_head s.log) (groups_held first.held ++ take hard since) _ _ _ _
+    (inr (front_ends (log_head s.log) (groups_held first.held) since hard (log_end s.log) (groups_end g.D.Disk.image g.D.Disk.may_leave s first since hard st)))
+    (c.append.ensures.crash c.requires.staged.0 is.links is.ready) (c.append.ensures.time c.requires.staged.0 is.links is.ready))
+    (keeps_torn g.D.Disk.may_leave g.D.Disk.moment g.D.Disk.left_since (log_head s.log) (groups_held first.held ++ take hard since) _ _ _ _ (inl (omega arith, within)) c.put_heads.ensures.crash c.put_heads.ensures.time)
+
+pub returns-clause-stands : goal.returns-clause-stands
+returns-clause-stands g c changes is fits alone first since hard st =
+    let s = c.args.self.now in
+    grown g.D.Disk.image g.D.Disk.may_leave g.D.Disk.moment g.D.Disk.left_since s _ c.args.staged c.args.number changes (g.D.Disk.image (log_disk c.append.new.self)) first since hard is fits alone c.requires.writable c.requires.number (omega arith) st
+    (c.put_heads.ensures.head ∙ c.append.ensures.head)
+    (c.put_heads.ensures.end ∙ done c.append.result c.told.result c.in_ok-told.field-0 c.told.ensures.err (search rules) (c.append.ensures.end changes is.links is.ready))
+    refl refl refl refl refl refl refl (c.put_heads.ensures.told ∙ c.append.ensures.told)
+    (done c.append.result c.told.result c.in_ok-told.field-0 c.told.ensures.err (search rules) (c.append.ensures.written changes is.links is.ready))
+    (puts_done c.put_heads.result c.told-2.result c.in_ok-told-2.field-0 _ _ (log_head s.log) _ c.args.staged.heads c.append.ensures.head c.told-2.ensures.err (search rules) c.put_heads.ensures.written)
+    (returns-clause-kept g c first since hard st)
+
+pub returns-clause-size : goal.returns-clause-size
+returns-clause-size g c changes is =
+    c.put_heads.ensures.end ∙ done c.append.result c.told.result c.in_ok-told.field-0 c.told.ensures.err (search rules) (c.append.ensures.end changes is.links is.ready) ∙ ends_sum c.args.number (log_end c.args.self.now.log) changes
+
+pub returns-in_err-told-clause-time : goal.returns-in_err-told-clause-time
+returns-in_err-told-clause-time g c = let is = c.requires.staged.1 in (c.append.ensures.time c.requires.staged.0 is.links is.ready).later
+
+pub returns-in_err-told-2-clause-time : goal.returns-in_err-told-2-clause-time
+returns-in_err-told-2-clause-time g c = let w = c.requires.whole in (returns-in_err-told-2-clause-kept g c w.0 w.1 w.2 w.3).later
+
+pub returns-clause-time : goal.returns-clause-time
+returns-clause-time g c = let w = c.requires.whole in (returns-clause-kept g c w.0 w.1 w.2 w.3).later

@@ -1,0 +1,80 @@
+use Rattle.std.proofs.Common.{rules, ◌≡◌, ◌+◌, ◌≤◌, ◌^◌, ◌++◌, ℕ, List, [], length, refl, sym, ◌∙◌, ap, subst, arith}
+use Rattle.tk_block.specs.declared.head.StaticHead.{StaticHead}
+use Rattle.tk_block.specs.Blocks.{group_bodies}
+use Rattle.tk_block.specs.Layout.{laid, links_of, end_of}
+use Rattle.tk_model.specs.Records.{after, replay}
+use Rattle.tk_model.specs.declared.record.Order.TheVariants.{Hash}
+use Rattle.tk_append.specs.Chains.{HeadsAre}
+use Rattle.tk_append.specs.Log.{blocks_of}
+use Rattle.tk_append.specs.LogParts.{log_disk, log_head, log_end}
+use Rattle.tk_hash.specs.Plan.{with_heads, FitHeads}
+use Rattle.tk_hash.proofs.Extents.{ends_sum}
+use Rattle.tk_hash.proofs.HashKeeps.{same_read, shelf_same, still_at, still_on, read_on, stood_on, length-lent}
+use Rattle.tk_hash.proofs.HashGrows.{planned}
+use Rattle.tk_hash.proofs.store.HashStore.stage.Goals as goal
+
+pub plan_changes-requires-clause-end : goal.plan_changes-requires-clause-end
+plan_changes-requires-clause-end g c = rw c.end-end.ensures (omega (arith, ends_sum 0 (log_end c.args.self.now.log) c.args.changes.now, c.requires.end))
+
+pub prepare-requires-clause-end : goal.prepare-requires-clause-end
+prepare-requires-clause-end g c = omega (arith, ends_sum 0 (log_end c.args.self.now.log) c.args.changes.now, c.requires.end)
+
+pub returns-in_err-plan-clause-stands : goal.returns-in_err-plan-clause-stands
+returns-in_err-plan-clause-stands g c first since hard st =
+    read_on g.D.Disk.image g.D.Disk.may_leave c.args.self.now _ first since hard
+    (same_read g.D.Disk.image c.args.self.now _ c.disk.result.now c.disk.ensures.value refl refl refl refl refl refl refl (length-lent c.args.self.now.buffer c.plan_changes.new.buffer) c.plan_changes.ensures.image)
+    (shelf_same g.D.Disk.image c.args.self.now)
+    (still_at g.D.Disk.image g.D.Disk.may_leave g.D.Disk.moment g.D.Disk.left_since _ _ _ c.disk.ensures.value c.plan_changes.ensures.still).crash st
+
+pub returns-in_err-plan-clause-since : goal.returns-in_err-plan-clause-since
+returns-in_err-plan-clause-since g c t n first since hard st =
+    stood_on g.D.Disk.image g.D.Disk.may_leave g.D.Disk.moment g.D.Disk.left_since c.args.self.now _ t n first since hard
+    (same_read g.D.Disk.image c.args.self.now _ c.disk.result.now c.disk.ensures.value refl refl refl refl refl refl refl (length-lent c.args.self.now.buffer c.plan_changes.new.buffer) c.plan_changes.ensures.image)
+    (shelf_same g.D.Disk.image c.args.self.now)
+    (still_at g.D.Disk.image g.D.Disk.may_leave g.D.Disk.moment g.D.Disk.left_since _ _ _ c.disk.ensures.value c.plan_changes.ensures.still) st
+
+pub returns-in_err-prepare-clause-stands : goal.returns-in_err-prepare-clause-stands
+returns-in_err-prepare-clause-stands g c first since hard st =
+    read_on g.D.Disk.image g.D.Disk.may_leave c.args.self.now _ first since hard
+    (same_read g.D.Disk.image c.args.self.now _ c.disk.result.now c.disk.ensures.value c.prepare.ensures.head c.prepare.ensures.end refl refl refl refl refl (length-lent c.args.self.now.buffer c.plan_changes.new.buffer) (ap g.D.Disk.image c.prepare.ensures.disk ∙ c.plan_changes.ensures.image))
+    (shelf_same g.D.Disk.image c.args.self.now) (still_on g.D.Disk.image g.D.Disk.may_leave g.D.Disk.moment g.D.Disk.left_since _ _ _ _ c.disk.ensures.value c.prepare.ensures.disk c.plan_changes.ensures.still).crash st
+
+pub returns-in_err-prepare-clause-since : goal.returns-in_err-prepare-clause-since
+returns-in_err-prepare-clause-since g c t n first since hard st =
+    stood_on g.D.Disk.image g.D.Disk.may_leave g.D.Disk.moment g.D.Disk.left_since c.args.self.now _ t n first since hard
+    (same_read g.D.Disk.image c.args.self.now _ c.disk.result.now c.disk.ensures.value c.prepare.ensures.head c.prepare.ensures.end refl refl refl refl refl (length-lent c.args.self.now.buffer c.plan_changes.new.buffer) (ap g.D.Disk.image c.prepare.ensures.disk ∙ c.plan_changes.ensures.image))
+    (shelf_same g.D.Disk.image c.args.self.now) (still_on g.D.Disk.image g.D.Disk.may_leave g.D.Disk.moment g.D.Disk.left_since _ _ _ _ c.disk.ensures.value c.prepare.ensures.disk c.plan_changes.ensures.still) st
+
+pub returns-clause-staged : goal.returns-clause-staged
+returns-clause-staged g c =
+    let links = c.in_ok-plan.plan.links in
+    let heads = c.in_ok-plan.plan.heads in
+    let count = c.in_ok-plan.plan.count in
+    let changes = c.args.changes.now in
+    let log = c.prepare.new.self in
+    let was = c.args.self.now.count in
+    let bytes : g.D.Disk.image (log_disk log) ≡ g.D.Disk.image c.disk.result.now = ap g.D.Disk.image c.prepare.ensures.disk ∙ c.plan_changes.ensures.image in
+    let head : log_head log ≡ c.head.result.now = c.prepare.ensures.head ∙ sym c.head.ensures in
+    let end : log_end log ≡ c.end-end.result = c.prepare.ensures.end ∙ sym c.end-end.ensures in
+    record {
+      some = c.requires.some;
+      heads = subst (λ (h : StaticHead). FitHeads h.p heads) (sym head) c.in_ok-plan.ensures.fit;
+      links = links;
+      ready = c.in_ok-prepare.ensures.ready;
+      ends = λ number. rw c.prepare.ensures.end (omega (arith, ends_sum number (log_end c.args.self.now.log) changes, c.requires.end));
+      links_are = λ number groups. planned (λ h e. links ≡ links_of h.p (blocks_of h groups) (laid e (group_bodies number changes))) groups _ _ _ _ _ _ bytes head end (c.in_ok-plan.ensures.links number groups);
+      heads_are = λ number groups old. planned (λ h e. HeadsAre h.p old (blocks_of h groups) → HeadsAre h.p (with_heads heads old) (blocks_of h groups ++ laid e (group_bodies number changes))) groups _ _ _ _ _ _ bytes head end (c.in_ok-plan.ensures.heads number groups old);
+      count_is = λ groups. planned (λ h e. was ≡ length (replay Hash groups []) → count ≡ length (after Hash changes (replay Hash groups []))) groups _ _ _ _ _ _ bytes head end (c.in_ok-plan.ensures.count groups);
+    }
+
+pub returns-clause-stands : goal.returns-clause-stands
+returns-clause-stands g c first since hard st =
+    read_on g.D.Disk.image g.D.Disk.may_leave c.args.self.now _ first since hard
+    (same_read g.D.Disk.image c.args.self.now _ c.disk.result.now c.disk.ensures.value c.prepare.ensures.head c.prepare.ensures.end refl refl refl refl refl (length-lent c.args.self.now.buffer c.plan_changes.new.buffer) (ap g.D.Disk.image c.prepare.ensures.disk ∙ c.plan_changes.ensures.image))
+    (shelf_same g.D.Disk.image c.args.self.now) (still_on g.D.Disk.image g.D.Disk.may_leave g.D.Disk.moment g.D.Disk.left_since _ _ _ _ c.disk.ensures.value c.prepare.ensures.disk c.plan_changes.ensures.still).crash st
+
+pub returns-clause-since : goal.returns-clause-since
+returns-clause-since g c t n first since hard st =
+    stood_on g.D.Disk.image g.D.Disk.may_leave g.D.Disk.moment g.D.Disk.left_since c.args.self.now _ t n first since hard
+    (same_read g.D.Disk.image c.args.self.now _ c.disk.result.now c.disk.ensures.value c.prepare.ensures.head c.prepare.ensures.end refl refl refl refl refl (length-lent c.args.self.now.buffer c.plan_changes.new.buffer) (ap g.D.Disk.image c.prepare.ensures.disk ∙ c.plan_changes.ensures.image))
+    (shelf_same g.D.Disk.image c.args.self.now) (still_on g.D.Disk.image g.D.Disk.may_leave g.D.Disk.moment g.D.Disk.left_since _ _ _ _ c.disk.ensures.value c.prepare.ensures.disk c.plan_changes.ensures.still) st
