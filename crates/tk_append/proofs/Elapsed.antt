@@ -1,6 +1,7 @@
 -- What a crash at any moment of some calls leaves, told by what it leaves of each.
-use Rattle.std.proofs.Common.{inl, inr, ℕ, List, refl, arith}
-use Rattle.tk_disk.specs.Crash.{Torn, Follows, Within, Elapses, LeavesOnly}
+use Rattle.std.proofs.Common.{◌⊎◌, subst, inl, inr, ℕ, List, refl, arith}
+use Rattle.std.specs.Prelude.{Option, Some, None, IfSome}
+use Rattle.tk_disk.specs.Crash.{Torn, Follows, Within, Only, Elapses, LeavesOnly}
 use Rattle.tk_append.specs.Read.{OnlyReads}
 
 pub torn_none : (at n : ℕ) (c : List ℕ) → Torn at n c c
@@ -59,3 +60,16 @@ module _ {D : Type 0} (moment : D → ℕ) (left_since : D → ℕ → List ℕ 
     -- a write behind a reading
     pub torn_read : (old mid new : D) (at n : ℕ) → OnlyReads may_leave moment left_since old mid → LeavesOnly moment left_since mid new (TornFrom may_leave mid at n) → LeavesOnly moment left_since old new (TornFrom may_leave old at n)
     torn_read old mid new at n still second = torn_behind old mid new at n still.crash (leaves_within old mid still.crash still.time) second
+
+    -- a write behind a hard sync
+    pub torn_synced : (image : Option (List ℕ)) (old mid new : D) (at n : ℕ) → IfSome image (λ f. Only f (may_leave mid)) → LeavesOnly moment left_since old mid (may_leave old) → LeavesOnly moment left_since mid new (TornFrom may_leave mid at n)
+        → IfSome image (λ f. LeavesOnly moment left_since old new (λ c. may_leave old c ⊎ Torn at n f c))
+    torn_synced None old mid new at n only first second = tt
+    torn_synced (Some f) old mid new at n only first second =
+        leaves_joined old mid new (λ c. may_leave old c ⊎ Torn at n f c) (leaves_weaker old mid _ _ first (λ c left. inl left))
+        (leaves_weaker mid new _ _ second (λ c torn. inr (subst (λ (d : List ℕ). Torn at n d c) (only torn.0 torn.1) torn.2)))
+
+    -- a write, and then a sync
+    pub torn_then : (old mid new : D) (at n : ℕ) → Follows (Torn at n) (may_leave old) (may_leave mid) → LeavesOnly moment left_since old mid (TornFrom may_leave old at n) → LeavesOnly moment left_since mid new (may_leave mid)
+        → LeavesOnly moment left_since old new (TornFrom may_leave old at n)
+    torn_then old mid new at n follows first second = leaves_joined old mid new (TornFrom may_leave old at n) first (leaves_weaker mid new _ _ second follows)

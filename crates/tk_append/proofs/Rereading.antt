@@ -1,6 +1,6 @@
 -- The reading of an image, block by block.
 use Rattle.std.proofs.Common.{◌≡◌, ℕ, zero, suc, ◌+◌, ◌-◌, ◌<◌, ◌≤◌, min, Bool, true, false, cond, List, [], ◌∷◌, ◌++◌, length, take, drop, refl, sym, ◌∙◌, ap, subst, arith, inl, inr}
-use Rattle.std.specs.Prelude.{Option, Some, None, option_map, nat_le}
+use Rattle.std.specs.Prelude.{Option, Some, None, option_map}
 use Rattle.std.specs.Option.{is_some}
 use Rattle.std.proofs.lemmas.Bool.{cases_lt}
 use Rattle.std.proofs.lemmas.Bool.Decides.{nat_tests}
@@ -10,7 +10,7 @@ use Rattle.tk_model.specs.declared.record.Group.{Group}
 use Rattle.tk_block.specs.declared.block.Body.{Body}
 use Rattle.tk_block.specs.declared.head.StaticHead.{StaticHead}
 use Rattle.tk_block.specs.Text.{head_at, base_of}
-use Rattle.tk_block.specs.Blocks.{body_at, check_in, is_body, said}
+use Rattle.tk_block.specs.Blocks.{body_at, is_body, said}
 use Rattle.tk_block.specs.Layout.{Placed}
 use Rattle.tk_block.specs.Grammar.{FitsExtent}
 use Rattle.tk_block.proofs.Grammar.{heads}
@@ -20,7 +20,7 @@ use Rattle.tk_append.specs.Restored.{may_be_read, read_block, read_on, read_bloc
 use Rattle.tk_append.specs.Reread.{NoneThere, IsThere, left_over, Knows, ReadUpto}
 use Rattle.tk_append.specs.declared.restore.Reading.{Reading}
 use Rattle.tk_append.specs.declared.restore.Standing.{Standing}
-use Rattle.tk_append.proofs.Restoring.{block_on, nothing_read, group_of}
+use Rattle.tk_append.proofs.Restoring.{block_on, nothing_read, no_body_there, group_of}
 
 -- the group that a block ends
 abbrev ended : Placed → List Change → List Group
@@ -103,14 +103,8 @@ pub knows_on : (old new : Reading) (w : Walk) (x : Placed) (change : Change) →
 knows_on old new w x change knows more is begun groups before some open_group =
     knows_more old new w x change knows more is begun groups before (open_group ∙ knows.open_group ∙ opened_on w.open_group x more (ap is_some (sym knows.open_group) ∙ some))
 
-no_body : (place : ℕ) → body_at [] place ≡ None
-unfolding body_at
-no_body place =
-    let short : nat_le (check_in [] + 4) 0 ≡ false = grind (arith, nat_tests) in
-    rw short refl
-
 pub none_short : (place : ℕ) (bytes : List ℕ) → length bytes < 24 → NoneThere place bytes
-none_short place bytes short = inr (ap (λ (l : List ℕ). body_at l place) (drop_all 24 bytes (omega arith)) ∙ no_body place)
+none_short place bytes short = inr (ap (λ (l : List ℕ). body_at l place) (drop_all 24 bytes (omega arith)) ∙ no_body_there place)
 
 rest_of : (place : ℕ) (f : List ℕ) → take (length f - place) (drop place f) ≡ drop place f
 rest_of place f = take_all (length f - place) (drop place f) (omega (arith, length-drop place f))

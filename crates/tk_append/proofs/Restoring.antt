@@ -1,8 +1,9 @@
 -- A file of groups is read back, and an image of it is restored to a front of its groups.
 use Rattle.std.proofs.Common.{◌≡◌, ◌≢◌, ℕ, zero, suc, ◌+◌, ◌-◌, ◌<◌, ◌≤◌, ◌^◌, Bool, true, false, cond, List, [], ◌∷◌, ◌++◌, length, take, drop, get_or, refl, sym, ◌∙◌, ap, subst, arith, append_assoc, inl, inr}
-use Rattle.std.specs.Prelude.{Option, Some, None, ◌==◌, not}
+use Rattle.std.specs.Prelude.{Option, Some, None, ◌==◌, not, nat_le}
 use Rattle.std.proofs.lemmas.Bool.{le-leb, cases_lt}
-use Rattle.std.proofs.lemmas.List.{append-nil, drop_at, take_at, take-append-le, take-append-drop, length-append, length-take, length-drop, drop-drop, get_or-drop, get_or-take}
+use Rattle.std.proofs.lemmas.List.{append-nil, drop_at, take_at, take-append-le, take-append-drop, length-append, length-take, length-drop, drop-drop, drop_all, get_or-drop, get_or-take}
+use Rattle.std.proofs.lemmas.Bool.Decides.{nat_tests}
 use Rattle.std.proofs.lemmas.Grind.{same_number_lists}
 use Rattle.std.proofs.Math.Seq.{take-append-add, take-length}
 use Rattle.tk_model.specs.declared.record.Group.{Group}
@@ -12,17 +13,17 @@ use Rattle.tk_block.specs.declared.block.Body.{Body}
 use Rattle.tk_block.specs.declared.head.StaticHead.{StaticHead}
 use Rattle.tk_block.specs.declared.closing.Closing.{Closing}
 use Rattle.tk_block.specs.Text.{head_at, static_at, static_text, closing_text, base_of}
-use Rattle.tk_block.specs.Blocks.{body_at, body_of, block_text, extent_of, room_of, group_bodies}
+use Rattle.tk_block.specs.Blocks.{body_at, check_in, body_of, block_text, extent_of, room_of, group_bodies}
 use Rattle.tk_block.specs.Layout.{Placed, laid, end_of, texts, links_of, bodies_of, heads_text, first_or_none}
 use Rattle.tk_block.proofs.Grammar.{statics, length-static_text, length-closing_text}
 use Rattle.tk_block.proofs.BlockReads.{block_head, block_body, block_rest}
 use Rattle.tk_block.proofs.Lengths.{room_fits, length-texts, length-heads_text}
 use Rattle.tk_block.proofs.Layouts.{laid-append, end_of-append, links_of-append, length-links_of, length-laid, texts-append-both, bodies_of-append, length-group_bodies}
 use Rattle.tk_append.specs.Log.{AreGroups, blocks_of}
-use Rattle.tk_append.specs.Opening.{Walk, begin, walked, is_in_turn, change_in}
+use Rattle.tk_append.specs.Opening.{Walk, begin, walked, opened_by, is_in_turn, change_in}
 use Rattle.tk_append.specs.Restored.{may_be_read, read_block, read_on, read_blocks, complete_groups, groups_in, groups_by, restored_groups, IsWhole, AllWhole, groups_text}
 use Rattle.tk_append.specs.FileText.{text_of}
-use Rattle.tk_append.specs.RestoringLaws.{ReadsBack, Restores, TornKeeps, FilesKeep, FrontsKept}
+use Rattle.tk_append.specs.RestoringLaws.{ReadsBack, Restores, TornKeeps, FilesKeep, FrontsKept, FilesUntorn}
 use Rattle.tk_append.proofs.ClosedFiles.{change_back}
 use Rattle.tk_append.proofs.Reopened.{Fit, fit_groups, least_upto, count_upto}
 
@@ -164,13 +165,29 @@ front_groups lo next place k (g ∷ gs) legal =
           }
     ]
 
-nothing_there : (place : ℕ) → head_at [] place ≡ None
+pub no_body_there : (place : ℕ) → body_at [] place ≡ None
+unfolding body_at
+no_body_there place =
+    let short : nat_le (check_in [] + 4) 0 ≡ false = grind (arith, nat_tests) in
+    rw short refl
+
+no_head_there : (place : ℕ) → head_at [] place ≡ None
 unfolding head_at
-nothing_there place = refl
+no_head_there place = refl
 
 pub nothing_read : (n : ℕ) (w : Walk) (place : ℕ) → read_on n w place [] ≡ w
 nothing_read zero w place = refl
-nothing_read (suc n) w place = ap (λ (o : Option ℕ). read_block w place o (body_at (drop 24 []) place) (λ v k. read_on n v (place + k) (drop k []))) (nothing_there place)
+nothing_read (suc n) w place = ap (λ (o : Option ℕ). read_block w place o (body_at (drop 24 []) place) (λ v k. read_on n v (place + k) (drop k []))) (no_head_there place)
+
+-- a file of kind 2, where each key is at home
+abbrev updating : StaticHead
+updating = record { kind = 2; version = 1; p = 0; order = 0; generation = 0 }
+
+abbrev alone : ShardOf
+alone = record { index = 0; of = 1 }
+
+groups_fit : (next place : ℕ) (groups : List Group) → AreGroups 0 next groups → next ≤ 2 ^ 64 → Fit next updating alone 0 None place (bodies_of groups)
+groups_fit next place groups legal small = fit_groups next updating alone 0 place groups small legal (λ set. absurd (cc set))
 
 -- the blocks of groups are read, and then what follows them
 groups_read : (h : StaticHead) (groups : List Group) (next : ℕ) (c rest : List ℕ) → AreGroups 0 next groups → next ≤ 2 ^ 64 → drop (base_of h.p) c ≡ groups_text h groups ++ rest
@@ -179,11 +196,9 @@ groups_read h groups next c rest legal small is =
     let base = base_of h.p in
     let bs = bodies_of groups in
     let links = links_of h.p [] (blocks_of h groups) in
-    let updating : StaticHead = record { kind = 2; version = 1; p = h.p; order = 0; generation = 0 } in
-    let shard : ShardOf = record { index = 0; of = 1 } in
     let few : length bs ≤ length c = omega (arith, ap length is, length-append (groups_text h groups) rest, length-drop base c, length-texts base bs links, count_upto base bs) in
     ap (λ (l : List ℕ). read_on (length c) begin base l) is
-    ∙ read_texts next updating shard (length c - length bs) (length c) begin base bs links rest (omega (arith, few)) (fit_groups next updating shard 0 base groups small legal (λ set. absurd (cc set)))
+    ∙ read_texts next updating alone (length c - length bs) (length c) begin base bs links rest (omega (arith, few)) (groups_fit next base groups legal small)
 
 -- the blocks of a whole file
 text_blocks : (h : StaticHead) (c : Closing) (groups : List Group) → drop (base_of h.p) (text_of h c groups) ≡ groups_text h groups
@@ -307,4 +322,41 @@ kept_less h groups more c kept =
       header = kept.header;
       heads = kept.heads;
       blocks = ap (λ (l : List ℕ). take (length text) l) split ∙ take_at text (behind.0 ++ drop (length all) there) (length text) refl;
+    }
+
+same_number : (a b : ℕ) → Some a ≡ Some b → a ≡ b
+same_number a b is = cc is
+
+same_body : (a b : Body) → Some a ≡ Some b → a ≡ b
+same_body a b is = cc is
+
+-- where the text of bodies stands, each is whole
+texts_whole : (next : ℕ) (h : StaticHead) (shard : ShardOf) (least : ℕ) (open_group : Option Placed) (place : ℕ) (bs : List Body) (links rest c : List ℕ) → drop place c ≡ texts (laid place bs) links ++ rest
+    → Fit next h shard least open_group place bs → AllWhole (laid place bs) c
+texts_whole next h shard least open_group place [] links rest c is fit = tt
+texts_whole next h shard least open_group place (b ∷ bs) links rest c is fit =
+    let link = first_or_none links in
+    let more = texts (laid (place + extent_of b) bs) (drop 1 links) in
+    let bytes : drop place c ≡ block_text b place link ++ (more ++ rest) = is ∙ append_assoc (block_text b place link) more rest in
+    let behind : drop (place + extent_of b) c ≡ more ++ rest = sym (drop-drop (extent_of b) place c) ∙ ap (λ (l : List ℕ). drop (extent_of b) l) bytes ∙ block_rest b place link (more ++ rest) in (
+      record {
+        head = λ e found. same_number e (extent_of b) (sym found ∙ ap (λ (l : List ℕ). head_at l place) bytes ∙ block_head b place link (more ++ rest) fit.0);
+        says = λ d found. same_body d b (sym found ∙ ap (λ (l : List ℕ). body_at l place) (sym (drop-drop 24 place c) ∙ ap (λ (l : List ℕ). drop 24 l) bytes) ∙ block_body b place link (more ++ rest) fit.0);
+      },
+      texts_whole next h shard (cond b.last (b.number + 1) least) (opened_by open_group (record { place = place; body = b })) (place + extent_of b) bs (drop 1 links) rest c behind fit.4,
+    )
+
+pub file_untorn : FilesUntorn
+file_untorn h f groups file =
+    let base = base_of h.p in
+    let bs = bodies_of groups in
+    let links = links_of h.p [] (blocks_of h groups) in
+    let text : drop base f ≡ groups_text h groups = ap (λ (l : List ℕ). drop base l) file.text ∙ text_blocks h file.closing groups in
+    let end : length f ≤ end_of base bs = omega (arith, ap length text, length-drop base f, length-texts base bs links) in
+    record {
+      blocks =
+          texts_whole (2 ^ 64) updating alone 0 None base bs links [] f (text ∙ sym (append-nil (groups_text h groups)))
+          (groups_fit (2 ^ 64) base groups file.legal (omega arith));
+      no_head = ap (λ (l : List ℕ). head_at l (end_of base bs)) (drop_all (end_of base bs) f end) ∙ no_head_there (end_of base bs);
+      no_body = ap (λ (l : List ℕ). body_at l (end_of base bs)) (drop_all (end_of base bs + 24) f (omega (arith, end))) ∙ no_body_there (end_of base bs);
     }

@@ -30,3 +30,7 @@ FilesKeep = (h : StaticHead) (f : List ℕ) (groups : List Group) → IsFile h f
 -- what keeps groups keeps a front of them
 abbrev pub FrontsKept : Type 0
 FrontsKept = (h : StaticHead) (groups more : List Group) (c : List ℕ) → IsKept h (groups ++ more) c → IsKept h groups c
+
+-- a file of groups is an untorn image of itself
+abbrev pub FilesUntorn : Type 0
+FilesUntorn = (h : StaticHead) (f : List ℕ) (groups : List Group) → IsFile h f groups → IsUntorn h groups f

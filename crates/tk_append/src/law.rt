@@ -1,6 +1,6 @@
 //! Laws, as functions that do nothing.
 ghost use Rattle.tk_append.specs.OpeningLaws.{OpensClosed, OpensOnlyClosed};
-ghost use Rattle.tk_append.specs.RestoringLaws.{ReadsBack, Restores, TornKeeps, FilesKeep, FrontsKept};
+ghost use Rattle.tk_append.specs.RestoringLaws.{ReadsBack, Restores, TornKeeps, FilesKeep, FrontsKept, FilesUntorn};
 
 /// Openings accept the closed files of groups, and nothing else.
 pub fn closed_files_open()
@@ -15,4 +15,5 @@ pub fn images_restore()
     ensures torn { TornKeeps }
     ensures files { FilesKeep }
     ensures fronts { FrontsKept }
+    ensures untorn { FilesUntorn }
 {}

@@ -1,4 +1,4 @@
-ghost use Rattle.std.specs.Prelude.{◌≡◌, ◌+◌, ◌*◌, ◌<◌, ◌≤◌, ◌++◌, ◌∷◌, ◌^◌, [], ℕ, List, length, true, IfSome, OnOk, Some};
+ghost use Rattle.std.specs.Prelude.{◌≡◌, ◌⊎◌, ◌+◌, ◌*◌, ◌<◌, ◌≤◌, ◌++◌, ◌∷◌, ◌^◌, [], ℕ, List, length, true, IfSome, OnOk, Some};
 ghost use Rattle.std.specs.Option.{is_some, option_map};
 ghost use Rattle.std.specs.Int.{w64, to_be_bytes};
 ghost use Rattle.std.specs.Borrow.{Lends, sem};
@@ -199,6 +199,7 @@ impl<D: Disk> GroupLog<D> {
         ensures crash { Follows (Torn 32 32) (D.may_leave (log_disk self.old)) (D.may_leave (log_disk self.new)) }
         ensures durable { OnOk result (IfSome (D.image (log_disk self.new)) (λ f. Only f (D.may_leave (log_disk self.new)))) }
         ensures time { LeavesOnly D.moment D.left_since (log_disk self.old) (log_disk self.new) (λ c. (d : List ℕ) × D.may_leave (log_disk self.old) d × Torn 32 32 d c) }
+        ensures behind { IfSome (D.image (log_disk self.old)) (λ f. LeavesOnly D.moment D.left_since (log_disk self.old) (log_disk self.new) (λ c. D.may_leave (log_disk self.old) c ⊎ Torn 32 32 f c)) }
     {
         self.sync_log(true)?;
         let size = self.end;

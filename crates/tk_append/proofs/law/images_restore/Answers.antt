@@ -1,4 +1,4 @@
-use Rattle.tk_append.proofs.Restoring.{reads_back, restores, torn_kept, file_kept, kept_less}
+use Rattle.tk_append.proofs.Restoring.{reads_back, restores, torn_kept, file_kept, kept_less, file_untorn}
 use Rattle.tk_append.proofs.law.images_restore.Goals as goal
 
 pub returns-clause-whole : goal.returns-clause-whole
@@ -15,3 +15,6 @@ returns-clause-files c = file_kept
 
 pub returns-clause-fronts : goal.returns-clause-fronts
 returns-clause-fronts c = kept_less
+
+pub returns-clause-untorn : goal.returns-clause-untorn
+returns-clause-untorn c = file_untorn
