@@ -1,6 +1,8 @@
 //! Hash files as stores.
 #![tactic(auto)]
 
+mod counts;
+mod links;
 mod open;
 mod plan;
 mod seek;
