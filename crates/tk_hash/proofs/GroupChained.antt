@@ -11,7 +11,7 @@ use Rattle.std.proofs.lemmas.List.{length-set, drop_more, take_more, take_all, t
 use Rattle.tk_model.specs.declared.record.Change.{Change}
 use Rattle.tk_model.specs.declared.record.Change.TheVariants as changes
 use Rattle.tk_model.specs.declared.record.Group.{Group}
-use Rattle.tk_model.specs.Records.{HasNoClear}
+use Rattle.tk_model.specs.Records.{AllFit, HasNoClear}
 use Rattle.tk_block.specs.Text.{base_of, static_text, closing_text}
 use Rattle.tk_block.specs.Number.{u64_in}
 use Rattle.tk_block.specs.Blocks.{body_of, is_nil, group_bodies, extent_of, key_of}
@@ -118,10 +118,13 @@ head_from p b (suc n) zero blocks below = ap (λ (i : ℕ). newest p i 0 blocks)
 head_from p b (suc n) (suc k) blocks below = head_from p (b + 1) n k blocks (omega arith) ∙ ap (λ (i : ℕ). newest p i 0 blocks) {x = b + 1 + k} {y = b + suc k} (omega arith)
 
 pub heads_there : (p : ℕ) (blocks : List Placed) → (heads : List ℕ) × HeadsAre p heads blocks
-heads_there p blocks = (heads_from p 0 (2 ^ p) blocks, record {
-  whole = length-heads_from p 0 (2 ^ p) blocks;
-  newest_each = λ b below. head_from p 0 (2 ^ p) b blocks below ∙ ap (λ (i : ℕ). newest p i 0 blocks) {x = 0 + b} {y = b} (omega arith);
-})
+heads_there p blocks = (
+  heads_from p 0 (2 ^ p) blocks,
+  record {
+    whole = length-heads_from p 0 (2 ^ p) blocks;
+    newest_each = λ b below. head_from p 0 (2 ^ p) b blocks below ∙ ap (λ (i : ℕ). newest p i 0 blocks) {x = 0 + b} {y = b} (omega arith);
+  },
+)
 
 -- a change that is no clear has its key
 pub has_its_key : (c : Change) (rest : List Change) (number : ℕ) (last : Bool) → HasNoClear (c ∷ rest) → HasKey (key_of c) (body_of number c last)
@@ -168,3 +171,11 @@ cleared_heads p end number heads before new cs all clear are =
     subst (λ (n : NewHeads). HeadsAre p (with_heads n heads) (before ++ laid end (group_bodies number cs))) (sym all)
     (subst (λ (l : List Change). HeadsAre p (replicate (length heads) 0) (before ++ laid end (group_bodies number l))) (sym clear)
     (steps.cleared p end (body_of number changes.Clear true) (replicate (length heads) 0) before refl (ap (λ (n : ℕ). replicate n 0) are.whole)))
+
+fit_alone : (c : Change) (rest : List Change) → AllFit (c ∷ rest) → AllFit (c ∷ [])
+fit_alone (changes.Put p) rest fit = (fit.0, fit.1, tt)
+fit_alone (changes.Drop k) rest fit = (fit.0, tt)
+fit_alone changes.Clear rest fit = tt
+
+pub fit_here : (c : Change) (rest all : List Change) → all ≡ c ∷ rest → AllFit all → AllFit (c ∷ [])
+fit_here c rest all is fit = fit_alone c rest (subst AllFit is fit)

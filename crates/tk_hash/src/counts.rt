@@ -1,7 +1,7 @@
 //! The number of records behind a group.
-ghost use Rattle.std.specs.Prelude.{◌≡◌, ◌+◌, ◌-◌, ◌≤◌, ◌<◌, ◌^◌, ◌∷◌, ℕ, List, [], length, take, slice_get, IfOk, IfSome, OnOk, Some};
+ghost use Rattle.std.specs.Prelude.{◌≡◌, ◌-◌, ◌≤◌, ◌<◌, List, [], length, take, IfOk, IfSome, OnOk, Some};
 ghost use Rattle.std.specs.Option.{is_some};
-ghost use Rattle.tk_model.specs.Records.{after, find, replay, AllFit, HasNoClear};
+ghost use Rattle.tk_model.specs.Records.{after, find, replay, HasNoClear};
 ghost use Rattle.tk_model.specs.declared.record.Order.TheVariants.{Hash};
 ghost use Rattle.tk_model.specs.declared.record.Group.{Group};
 ghost use Rattle.tk_store.specs.Store.{HasCause, NeverFull};

@@ -37,7 +37,7 @@ loop-i-preserved g c =
           let all = replay Hash groups [] in
           counted_more cs i c.loop-i.count c.in_ok-count.count x there all c.loop-i-test.true c.index-changes-i.is (replay_rising Hash groups [] tt) c.requires.alone (known is first)
           (is_told is ∙ ap (λ (k : List ℕ). told_there (find k marks) (is_some (find k all))) c.key_of.ensures
-            ∙ ap (λ (m : List Pair). told_there (find (key_of x) m) (is_some (find (key_of x) all))) c.in_ok-mark_before.ensures)
+          ∙ ap (λ (m : List Pair). told_there (find (key_of x) m) (is_some (find (key_of x) all))) c.in_ok-mark_before.ensures)
           c.in_ok-count.ensures);
       marks = c.in_ok-mark_before.ensures ∙ ap (λ (k : ℕ). marked (take k cs) []) next;
       buffer = e.buffer ∙ so_far.buffer;

@@ -11,4 +11,4 @@ pub returns-in-None-clause-value : goal.returns-in-None-clause-value
 returns-in-None-clause-value g c = λ groups.
     let none : find c.args.key.now c.args.marks.now ≡ None = sym c.get.ensures ∙ ap option_copied c.in-None.is in
     subst (λ (o : Option (List ℕ)). IfSome (g.D.Disk.image c.args.disk.now) (λ f. IsFile c.args.head.now f groups
-      → IfOk c.has_key.result (λ there. there ≡ told_there o (is_some (find c.args.key.now (replay Hash groups [])))))) (sym none) (c.has_key.ensures.value groups)
+    → IfOk c.has_key.result (λ there. there ≡ told_there o (is_some (find c.args.key.now (replay Hash groups [])))))) (sym none) (c.has_key.ensures.value groups)

@@ -12,7 +12,7 @@ use Rattle.tk_append.proofs.PlanLoop.{Ahead, all_ahead_heads, all_ahead_links, f
 use Rattle.tk_hash.specs.declared.plan.NewHead.{NewHead}
 use Rattle.tk_hash.specs.Plan.{with_new, AllBelow, placed_in, IsNewest}
 use Rattle.tk_hash.proofs.HeadTexts.{if_some, if_both}
-use Rattle.tk_hash.proofs.GroupChained.{here, rest_ends, chained_more, file_heads, heads_there, no_clear_rest, below_last, back_to}
+use Rattle.tk_hash.proofs.GroupChained.{here, fit_here, rest_ends, chained_more, file_heads, heads_there, no_clear_rest, below_last, back_to}
 use Rattle.tk_hash.proofs.ReadSteps.{reads_more}
 use Rattle.tk_hash.proofs.links.chain_changes.Goals as goal
 
@@ -22,8 +22,24 @@ overflow_add-place g c =
     let cs = c.args.changes.now in
     let at = here cs i c.change-item.result c.loop-change-test.true c.change-item.is in
     let rest = drop (i + 1) cs in
-    omega (arith, rest_ends c.loop-change.place c.extent_of_change-place.result c.args.end i c.change-item.result cs 0 at (c.extent_of_change-place.ensures 0 (is_nil rest)) (c.loop-change.invariant.ends 0),
-      c.requires.end, end_behind (c.loop-change.place + c.extent_of_change-place.result) (group_bodies 0 rest))
+    omega (
+      arith,
+      rest_ends c.loop-change.place c.extent_of_change-place.result c.args.end i c.change-item.result cs 0 at (c.extent_of_change-place.ensures 0 (is_nil rest)) (c.loop-change.invariant.ends 0),
+      c.requires.end,
+      end_behind (c.loop-change.place + c.extent_of_change-place.result) (group_bodies 0 rest),
+    )
+
+pub extent_of_change-place-requires : goal.extent_of_change-place-requires
+extent_of_change-place-requires g c =
+    let i = c.loop-change.change-index in
+    let cs = c.args.changes.now in
+    let x = c.change-item.result in
+    fit_here x (drop (i + 1) cs) (drop i cs) (here cs i x c.loop-change-test.true c.change-item.is) c.loop-change.invariant.fit
+
+pub returns-in_err-chain_key-clause-still : goal.returns-in_err-chain_key-clause-still
+returns-in_err-chain_key-clause-still g c =
+    let disk = g.D.Disk in
+    reads_more disk.may_leave disk.moment disk.left_since g.met.D.Disk.counts_now c.args.disk.now c.loop-change.disk c.chain_key.new.disk c.loop-change.invariant.still c.chain_key.ensures.still
 
 pub loop-change-preserved : goal.loop-change-preserved
 loop-change-preserved g c =
@@ -52,7 +68,7 @@ loop-change-preserved g c =
           let has = file_heads c.args.head.now f groups is in
           let before = blocks_of c.args.head.now groups in
           subst (λ (l : List NewHead). Ahead p (with_new l heads) c.chain_key.new.chains.links (place + extent) rest cs c.args.end number before) (sym {A = List NewHead} e.heads)
-          (subst (λ (l : List ℕ). Ahead p (with_new (ns ++ n ∷ []) heads) l (place + extent) rest cs c.args.end number before) (sym (linked (omega (arith, has.long, e.below))))
+          (subst (λ (l : List ℕ). Ahead p (with_new (ns ++ n ∷ []) heads) l (place + extent) rest cs c.args.end number before) (sym {A = List ℕ} (linked (omega (arith, has.long, e.below))))
           (chained_more p ns heads c.loop-change.chains.links place extent key x rest cs c.args.end number before f c.key_of.ensures none e.below
           (c.extent_of_change-place.ensures number (is_nil rest)) has are
           (subst (λ (l : List Change). Ahead p (with_new ns heads) c.loop-change.chains.links place l cs c.args.end number before) at (known is are)))));
