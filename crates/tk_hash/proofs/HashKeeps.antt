@@ -154,7 +154,7 @@ module _ {D : Type 0} (image : D → Option (List ℕ)) (may_leave : D → List 
       let st = w.3 in
       let groups = st.groups ++ w.1 in
       let here = subst (λ (d : D). IfSome (image d) (λ f. IsFile (log_head s.log) f groups → P d (g (log_head s.log) groups))) at
-          (subst (λ (k : StaticHead). IfSome (image lent) (λ f. IsFile k f groups → P lent (g k groups))) head (told groups)) in
+      (subst (λ (k : StaticHead). IfSome (image lent) (λ f. IsFile k f groups → P lent (g k groups))) head (told groups)) in
       mapped (image (log_disk s.log)) (λ f. g (log_head s.log) (groups_in (log_head s.log) f)) (P (log_disk s.log))
       (told_file (image (log_disk s.log)) (log_head s.log) groups (λ gs. P (log_disk s.log) (g (log_head s.log) gs)) (is_file image may_leave s w.0 w.1 w.2 st) here)
 
@@ -166,7 +166,7 @@ module _ {D : Type 0} (image : D → Option (List ℕ)) (may_leave : D → List 
       let st = w.3 in
       let groups = st.groups ++ w.1 in
       let here = subst (λ (d : D). IfSome (image d) (λ f. IsFile (log_head s.log) f groups → IsShelf (log_head s.log) groups s.shelf → P (g (log_head s.log) groups))) at
-          (subst (λ (k : StaticHead). IfSome (image lent) (λ f. IsFile k f groups → IsShelf k groups s.shelf → P (g k groups))) head (told groups)) in
+      (subst (λ (k : StaticHead). IfSome (image lent) (λ f. IsFile k f groups → IsShelf k groups s.shelf → P (g k groups))) head (told groups)) in
       mapped (image (log_disk s.log)) (λ f. g (log_head s.log) (groups_in (log_head s.log) f)) P
       (told_file (image (log_disk s.log)) (log_head s.log) groups (λ gs. P (g (log_head s.log) gs)) (is_file image may_leave s w.0 w.1 w.2 st)
       (shelf_given (image (log_disk s.log)) (λ f. IsFile (log_head s.log) f groups) _ _ here st.shelf))

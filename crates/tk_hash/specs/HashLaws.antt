@@ -83,7 +83,7 @@ pub front_of : (h : StaticHead) (first gs : List Group) (n : ℕ) (c : List ℕ)
 front_of h first gs n c header generation le legal kept untorn =
     let whole : (first ++ take n gs) ++ drop n gs ≡ first ++ gs = append_assoc first (take n gs) (drop n gs) ∙ ap (λ (l : List Group). first ++ l) (take-append-drop n gs) in
     let r = restores h (first ++ take n gs) (drop n gs) (2 ^ 64) c header generation (subst (λ (l : List Group). AreGroups 0 (2 ^ 64) l) (sym whole) legal) (omega arith) kept
-        (subst (λ (l : List Group). IsUntorn h l c) (sym whole) untorn) in
+    (subst (λ (l : List Group). IsUntorn h l c) (sym whole) untorn) in
     record {
       count = n + r.0;
       least = omega arith;

@@ -1,12 +1,9 @@
-use Rattle.std.proofs.Common.{rules, ◌≡◌, ◌+◌, ◌≤◌, ◌++◌, ℕ, List, length, take, inl, refl, sym, ◌∙◌, ap, subst, arith}
-use Rattle.std.specs.Prelude.{Option}
-use Rattle.std.specs.Option.{option_map}
-use Rattle.tk_model.specs.declared.record.Group.{Group}
-use Rattle.tk_append.specs.LogParts.{log_disk, log_head, log_end, with_closing}
+use Rattle.std.proofs.Common.{rules, ◌++◌, take, inl, refl, ◌∙◌, arith}
+use Rattle.tk_append.specs.LogParts.{log_disk, log_head, log_end}
 use Rattle.tk_hash.specs.Hash.{groups_held}
 use Rattle.tk_hash.proofs.Keeping.{keeps_torn}
 use Rattle.tk_hash.proofs.HashKeeps.{done}
-use Rattle.tk_hash.proofs.HashGrows.{marked, header_there, closed_file, closing_by}
+use Rattle.tk_hash.proofs.HashGrows.{marked, closed_file, closing_by}
 use Rattle.tk_hash.proofs.store.HashStore.end_file.Goals as goal
 
 pub returns-in_err-told-clause-kept : goal.returns-in_err-told-clause-kept

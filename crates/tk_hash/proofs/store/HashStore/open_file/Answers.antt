@@ -1,11 +1,10 @@
-use Rattle.std.proofs.Common.{◌≡◌, ℕ, List, [], sym, ◌∙◌, ap, subst, arith}
-use Rattle.std.specs.Prelude.{Option, IfSome, IfOk, IfErr}
+use Rattle.std.proofs.Common.{◌≡◌, ℕ, sym, subst, arith}
+use Rattle.std.specs.Prelude.{IfSome}
 use Rattle.std.proofs.lemmas.Result.{IfOk-weaker}
 use Rattle.tk_block.specs.declared.head.StaticHead.{StaticHead}
 use Rattle.tk_append.specs.Log.{closed_text}
 use Rattle.tk_append.specs.LogParts.{log_disk, log_head}
 use Rattle.tk_append.proofs.Elapsed.{torn_read}
-use Rattle.tk_hash.specs.Hash.{opening, hash_disk}
 use Rattle.tk_hash.proofs.HashOpens.{counted_log, all_ok, err_weaker}
 use Rattle.tk_hash.proofs.store.HashStore.open_file.Goals as goal
 

@@ -1,7 +1,7 @@
-use Rattle.std.proofs.Common.{rules, ◌≡◌, ◌+◌, ◌≤◌, ◌^◌, ◌++◌, ℕ, List, [], length, refl, sym, ◌∙◌, ap, subst, arith}
+use Rattle.std.proofs.Common.{◌≡◌, ◌++◌, [], length, refl, sym, ◌∙◌, ap, subst, arith}
 use Rattle.tk_block.specs.declared.head.StaticHead.{StaticHead}
 use Rattle.tk_block.specs.Blocks.{group_bodies}
-use Rattle.tk_block.specs.Layout.{laid, links_of, end_of}
+use Rattle.tk_block.specs.Layout.{laid, links_of}
 use Rattle.tk_model.specs.Records.{after, replay}
 use Rattle.tk_model.specs.declared.record.Order.TheVariants.{Hash}
 use Rattle.tk_append.specs.Chains.{HeadsAre}

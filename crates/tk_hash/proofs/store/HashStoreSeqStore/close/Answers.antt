@@ -1,14 +1,13 @@
-use Rattle.std.proofs.Common.{rules, ◌≡◌, ◌≤◌, ◌++◌, ℕ, Bool, List, [], length, true, refl, sym, ap, subst, arith}
-use Rattle.std.specs.Prelude.{Option, None, Some, IfSome, OnOk, if◌then◌else◌}
-use Rattle.std.proofs.lemmas.Result.{on_ok_weaker}
+use Rattle.std.proofs.Common.{◌≤◌, ◌++◌, List, [], length, true, sym, ap, subst, arith}
+use Rattle.std.specs.Prelude.{None}
 use Rattle.std.proofs.lemmas.List.{append-nil}
 use Rattle.tk_model.specs.declared.record.Group.{Group}
 use Rattle.tk_store.specs.Store.{Nature}
 use Rattle.tk_append.specs.Log.{closed_text}
 use Rattle.tk_append.specs.LogParts.{log_disk, log_head}
-use Rattle.tk_hash.specs.Hash.{hash_head, HashStands, HashStood, opening}
+use Rattle.tk_hash.specs.Hash.{HashStands, opening}
 use Rattle.tk_hash.proofs.HashKeeps.{stood_as, safe_as}
-use Rattle.tk_hash.proofs.HashGrows.{restaged, stood_staged, map_kept, read_file, as_written, as_read}
+use Rattle.tk_hash.proofs.HashGrows.{restaged, map_kept, read_file, as_written, as_read}
 use Rattle.tk_hash.proofs.store.HashStoreSeqStore.close.Goals as goal
 
 pub returns-in_err-end_file-clause-safe : goal.returns-in_err-end_file-clause-safe

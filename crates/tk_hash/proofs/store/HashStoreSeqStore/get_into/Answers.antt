@@ -1,13 +1,10 @@
-use Rattle.std.proofs.Common.{◌≡◌, ℕ, ◌+◌, ◌≤◌, List, [], refl, sym, ◌∙◌, ap, subst, length}
-use Rattle.std.specs.Prelude.{Option, IfOk}
+use Rattle.std.proofs.Common.{◌+◌, ◌≤◌, [], refl}
+use Rattle.std.specs.Prelude.{IfOk}
 use Rattle.tk_model.specs.Records.{find, replay}
 use Rattle.tk_model.specs.declared.record.Order.TheVariants.{Hash}
 use Rattle.tk_store.specs.Store.{GivesInto}
-use Rattle.tk_append.specs.LogParts.{log_disk}
 use Rattle.tk_hash.specs.Chain.{cost_in}
-use Rattle.tk_hash.specs.declared.store.HashStore.{HashStore}
-use Rattle.tk_hash.proofs.HashKeeps.{SameFile, same_read, told_by, still_at, read_on, stood_on, shelf_same, length-lent}
-use Rattle.tk_hash.proofs.store.HashStoreSeqStore.get_into.Given as Given
+use Rattle.tk_hash.proofs.HashKeeps.{same_read, told_by, still_at, read_on, stood_on, shelf_same, length-lent}
 use Rattle.tk_hash.proofs.store.HashStoreSeqStore.get_into.Goals as goal
 
 pub returns-clause-value : goal.returns-clause-value

@@ -1,4 +1,4 @@
-use Rattle.std.proofs.Common.{◌≡◌, List, [], refl}
+use Rattle.std.proofs.Common.{◌≡◌, [], refl}
 use Rattle.std.specs.Prelude.{IfOk}
 use Rattle.tk_model.specs.Records.{first_within, replay}
 use Rattle.tk_model.specs.declared.record.Order.TheVariants.{Hash}

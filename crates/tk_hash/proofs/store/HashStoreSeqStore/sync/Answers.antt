@@ -1,13 +1,7 @@
-use Rattle.std.proofs.Common.{rules, ◌≡◌, ◌++◌, ℕ, List, [], length, refl, true, false}
-use Rattle.std.specs.Prelude.{Option, if◌then◌else◌}
-use Rattle.tk_model.specs.declared.record.Group.{Group}
-use Rattle.tk_store.specs.Store.{First}
-use Rattle.tk_append.specs.LogParts.{log_disk, log_head}
-use Rattle.tk_hash.specs.Hash.{groups_held, HashStands, KeepsGroups}
+use Rattle.std.proofs.Common.{rules, [], length, refl}
 use Rattle.tk_hash.proofs.Keeping.{keeps_within}
 use Rattle.tk_hash.proofs.HashKeeps.{done, least_if, shelf_same, stood_kept, safe_as}
 use Rattle.tk_hash.proofs.HashGrows.{synced}
-use Rattle.tk_hash.proofs.store.HashStoreSeqStore.sync.Given as Given
 use Rattle.tk_hash.proofs.store.HashStoreSeqStore.sync.Goals as goal
 
 pub returns-in_ok-told-clause-stands : goal.returns-in_ok-told-clause-stands
