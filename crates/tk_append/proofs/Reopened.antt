@@ -215,7 +215,7 @@ pub count_upto : (place : ℕ) (bs : List Body) → place + length bs ≤ end_of
 count_upto place [] = omega arith
 count_upto place (b ∷ bs) = omega (arith, count_upto (place + extent_of b) bs)
 
-newest_laid : (p k found place m : ℕ) (bs : List Body) → found < m → end_of place bs ≤ m → newest p k found (laid place bs) < m
+pub newest_laid : (p k found place m : ℕ) (bs : List Body) → found < m → end_of place bs ≤ m → newest p k found (laid place bs) < m
 newest_laid p k found place m [] below end = below
 newest_laid p k found place m (b ∷ bs) below end =
     newest_laid p k (renewed p k found (record { place = place; body = b })) (place + extent_of b) m bs
@@ -238,7 +238,7 @@ u64_read : (f : List ℕ) (at n : ℕ) → n < 2 ^ 64 → take 8 (drop at f) ≡
 unfolding u64_in
 u64_read f at n small is = ap (λ (l : List ℕ). from_be_bytes w64 l) is ∙ from_be_bytes-to_be_bytes_8 n small
 
-head_read : (p k : ℕ) (blocks : List Placed) (front rest : List ℕ) → length front ≡ 64 → k < 2 ^ p → newest p k 0 blocks < 2 ^ 64 → u64_in (front ++ (heads_text p blocks ++ rest)) (64 + 8 * k) ≡ newest p k 0 blocks
+pub head_read : (p k : ℕ) (blocks : List Placed) (front rest : List ℕ) → length front ≡ 64 → k < 2 ^ p → newest p k 0 blocks < 2 ^ 64 → u64_in (front ++ (heads_text p blocks ++ rest)) (64 + 8 * k) ≡ newest p k 0 blocks
 unfolding heads_text
 head_read p k blocks front rest long below small =
     u64_read (front ++ (heads_below p (2 ^ p) blocks ++ rest)) (64 + 8 * k) (newest p k 0 blocks) small

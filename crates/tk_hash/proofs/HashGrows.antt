@@ -266,7 +266,7 @@ module _ {D : Type 0} (image : D → Option (List ℕ)) (may_leave : D → List 
         generation = subst (λ (k : StaticHead). k.generation < 2 ^ 64) (sym head) st.generation;
         end_is = end ∙ ends ∙ ap (λ (l : List Group). end_of (base_of h.p) (bodies_of l)) joined ∙ ap (λ (k : StaticHead). end_of (base_of k.p) (bodies_of (st.groups ++ (since ++ more ∷ [])))) (sym head);
         end_fits = omega (arith, end, is.ends n);
-        buffer = subst (λ (l : List ℕ). 65536 ≤ length l) (sym buffer) st.buffer;
+        buffer = subst (λ (l : List ℕ). 131072 ≤ length l) (sym buffer) st.buffer;
         no_group = λ no. absurd (cc (no, writable, may));
         there = subst (λ (k : StaticHead). IfSome (image (log_disk t.log)) (λ f. f ≡ text_of k t.closing (st.groups ++ (since ++ more ∷ [])))) (sym head)
             (subst (λ (k : Closing). IfSome (image (log_disk t.log)) (λ f. f ≡ text_of h k (st.groups ++ (since ++ more ∷ [])))) (sym closing)

@@ -85,7 +85,7 @@ module _ {D : Type 0} (image : D → Option (List ℕ)) (may_leave : D → List 
       (subst (λ (x : Option (List ℕ)). IfSome x (λ f. f ≡ text_of (log_head log) closing groups)) (sym (o.read_bytes refl)) is.text)
 
   pub opened : (s : HashStore D) (log : GroupLog D) (closing : Closing) (groups : List Group) → IsClosedLog image log closing groups → IsOpened s.writable log s.log closing s.closing → log_head s.log ≡ log_head log → log_end s.log ≡ log_end log
-      → s.count ≡ closing.count → s.next ≡ closing.next → s.last ≡ None → 65536 ≤ length s.buffer.items → s.shelf ≡ None → HashStands image may_leave s (opening groups) [] 0
+      → s.count ≡ closing.count → s.next ≡ closing.next → s.last ≡ None → 131072 ≤ length s.buffer.items → s.shelf ≡ None → HashStands image may_leave s (opening groups) [] 0
   opened s log closing groups is o head end count next last buffer shelf =
       let h : StaticHead = log_head log in
       let same : groups ++ [] ≡ groups = append-nil groups in

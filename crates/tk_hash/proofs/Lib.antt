@@ -1,6 +1,14 @@
+pub mod Chained
+pub mod Chains
 pub mod Extents
+pub mod Filled
+pub mod Fronts
 pub mod HashGrows
 pub mod HashKeeps
 pub mod HashOpens
 pub mod HashTexts
 pub mod Keeping
+pub mod Looks
+pub mod Seen
+pub mod Sought
+pub mod Values

@@ -126,7 +126,7 @@ module _ {D : Type 0} where
     pub generation : (log_head s.log).generation < 2 ^ 64
     pub end_is : log_end s.log ≡ end_of (base_of (log_head s.log).p) (bodies_of (groups ++ since))
     pub end_fits : log_end s.log < 2 ^ 64
-    pub buffer : 65536 ≤ length s.buffer.items
+    pub buffer : 131072 ≤ length s.buffer.items
     -- a file that is read alone gets no group and keeps its closing part
     pub no_group : s.writable ≡ false → since ≡ []
     pub there : IfSome (image (log_disk s.log)) (λ f. f ≡ text_of (log_head s.log) s.closing (groups ++ since))

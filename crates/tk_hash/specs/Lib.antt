@@ -1,5 +1,6 @@
 pub mod Chain
 pub mod Hash
 pub mod HashLaws
+pub mod Linked
 pub mod Plan
 pub mod Seek

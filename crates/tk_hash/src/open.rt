@@ -17,8 +17,8 @@ use tk_block::{Closing, StaticHead};
 use tk_disk::{Disk, DiskError};
 use tk_model::{NoMemory, OpenError, PairList, ShardOf, Unopened};
 
-/// Room for the longest key.
-const BUFFER: usize = 1 << 16;
+/// Room for the front of a block with the longest key, and some of its value.
+const BUFFER: usize = 1 << 17;
 
 /// So many zero bytes.
 fn zeros(alloc: Global, len: usize) -> Result<Vec<u8>, NoMemory>
