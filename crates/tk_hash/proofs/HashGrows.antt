@@ -1,11 +1,11 @@
 -- A hash store after a group, after a sync, and after another closing part.
-use Rattle.std.proofs.Common.{◌≡◌, ◌⊎◌, inl, inr, ℕ, ◌+◌, ◌<◌, ◌≤◌, ◌^◌, Bool, true, false, List, [], ◌∷◌, ◌++◌, length, take, drop, refl, sym, ◌∙◌, ap, subst, arith, length-append, append_assoc}
+use Rattle.std.proofs.Common.{◌≡◌, ◌⊎◌, inl, inr, ℕ, ◌+◌, ◌*◌, ◌<◌, ◌≤◌, ◌^◌, Bool, true, false, List, [], ◌∷◌, ◌++◌, length, take, drop, refl, sym, ◌∙◌, ap, subst, arith, length-append, append_assoc}
 use Rattle.std.specs.Prelude.{◌≢◌, Option, Some, None, IfSome, MatchOption, Result, Ok, Err, OnOk, OnErr, if◌then◌else◌, sum_by}
 use Rattle.std.specs.Option.{option_map, is_some}
 use Rattle.std.proofs.lemmas.List.{append-nil, take_all, take-append-le}
 use Rattle.std.proofs.lemmas.Option.{IfSome_then}
 use Rattle.std.proofs.lemmas.Bool.Decides.{nat_tests}
-use Rattle.tk_disk.specs.Crash.{Within, Only}
+use Rattle.tk_disk.specs.Crash.{Torn, Follows, Within, Only, LeavesOnly}
 use Rattle.tk_model.specs.declared.record.Order.TheVariants.{Hash}
 use Rattle.tk_model.specs.declared.record.Pair.{Pair}
 use Rattle.tk_model.specs.declared.record.Group.{Group}
@@ -36,6 +36,7 @@ use Rattle.tk_hash.specs.declared.plan.NewHeads.{NewHeads}
 use Rattle.tk_hash.specs.Plan.{with_heads}
 use Rattle.tk_hash.specs.declared.shelf.Shelf.{Shelf}
 use Rattle.tk_hash.specs.Seek.{IsShelf}
+use Rattle.tk_hash.proofs.Keeping.{front_ends, keeps_torn, keeps_joined}
 use Rattle.tk_hash.proofs.HashKeeps.{SameFile, KeepsShelf, carried, rested, shelf_same, done, map_is}
 use Rattle.tk_hash.proofs.HashTexts.{PutsHeads, file_more, closed_there, closed_now, closed_still}
 
@@ -195,6 +196,23 @@ module _ {D : Type 0} (image : D → Option (List ℕ)) (may_leave : D → List 
     least = st.least;
     before = st.before;
   }
+
+  module _ (moment : D → ℕ) (left_since : D → ℕ → List ℕ → Type 0) (s : HashStore D) (first : First) (since : List Group) (hard : ℕ) (st : HashStands image may_leave s first since hard) where
+    -- a group behind the others keeps them
+    pub appended_keeps : (mid : D) (n : ℕ) → Follows (Torn (log_end s.log) n) (may_leave (log_disk s.log)) (may_leave mid) → LeavesOnly moment left_since (log_disk s.log) mid (λ c. (d : List ℕ) × may_leave (log_disk s.log) d × Torn (log_end s.log) n d c)
+        → KeepsGroups may_leave moment left_since (log_head s.log) (groups_held first.held ++ take hard since) (log_disk s.log) mid
+    appended_keeps mid n follows time =
+        keeps_torn may_leave moment left_since (log_head s.log) (groups_held first.held ++ take hard since) (log_disk s.log) mid (log_end s.log) n
+        (inr (front_ends (log_head s.log) (groups_held first.held) since hard (log_end s.log) (groups_end s first since hard st))) follows time
+
+    -- and so do heads behind it
+    pub put_keeps : (mid last : D) (k : StaticHead) → k ≡ log_head s.log → KeepsGroups may_leave moment left_since (log_head s.log) (groups_held first.held ++ take hard since) (log_disk s.log) mid
+        → Follows (Torn 64 (8 * 2 ^ k.p)) (may_leave mid) (may_leave last) → LeavesOnly moment left_since mid last (λ c. (d : List ℕ) × may_leave mid d × Torn 64 (8 * 2 ^ k.p) d c)
+        → KeepsGroups may_leave moment left_since (log_head s.log) (groups_held first.held ++ take hard since) (log_disk s.log) last
+    put_keeps mid last k same keeps follows time =
+        let within : 64 + 8 * 2 ^ k.p ≤ base_of (log_head s.log).p = rw same (omega arith) in
+        keeps_joined may_leave moment left_since (log_head s.log) (groups_held first.held ++ take hard since) (log_disk s.log) mid last keeps
+        (keeps_torn may_leave moment left_since (log_head s.log) (groups_held first.held ++ take hard since) mid last 64 (8 * 2 ^ k.p) (inl (omega arith, within)) follows time)
 
   -- the file that a store closes
   pub closed_file : (s : HashStore D) (new : Option (List ℕ)) (next : ℕ) (groups since : List Group) (hard : ℕ) → HashStands image may_leave s (opening groups) since hard

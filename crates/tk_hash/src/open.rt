@@ -17,7 +17,7 @@ use tk_block::{Closing, StaticHead};
 use tk_disk::{Disk, DiskError};
 use tk_model::{NoMemory, OpenError, PairList, ShardOf, Unopened};
 
-/// Room for the longest key and for a value behind it.
+/// Room for the front of a block with the longest key, and some of its value.
 const BUFFER: usize = 1 << 17;
 
 /// So many zero bytes.

@@ -38,7 +38,7 @@ pub struct HashStore<D: Disk> {
     pub(crate) writable: bool,
     pub(crate) closed: bool,
     pub(crate) limit: u64,
-    /// Room for a key and a value, so that look-ups take no memory.
+    /// Room for a block's front, so that look-ups take no memory.
     pub(crate) buffer: Vec<u8>,
     pub(crate) shelf: Option<Shelf>,
     pub(crate) staged: Option<Staged>,
@@ -276,7 +276,14 @@ impl<D: Disk> SeqStore for HashStore<D> {
 
     fn get(&mut self, key: &[u8], out: &mut Bytes) -> Result<bool, StoreError> {
         let head = *self.log.head();
-        get_value(self.alloc, self.log.disk(), &head, &mut self.buffer, key, out)
+        get_value(
+            self.alloc,
+            self.log.disk(),
+            &head,
+            &mut self.buffer,
+            key,
+            out,
+        )
     }
 
     fn get_into(&mut self, key: &[u8], into: &mut [u8]) -> Result<Option<u32>, StoreError> {

@@ -7,9 +7,8 @@ use Rattle.tk_block.specs.Text.{base_of}
 use Rattle.tk_append.specs.LogParts.{log_disk, log_head, log_end}
 use Rattle.tk_hash.specs.Hash.{groups_held}
 use Rattle.tk_hash.proofs.Extents.{ends_sum}
-use Rattle.tk_hash.proofs.Keeping.{front_ends, keeps_torn, keeps_joined}
 use Rattle.tk_hash.proofs.HashKeeps.{done}
-use Rattle.tk_hash.proofs.HashGrows.{grown, groups_end, length_there, base_within, still_there, puts_done}
+use Rattle.tk_hash.proofs.HashGrows.{grown, appended_keeps, put_keeps, length_there, base_within, still_there, puts_done}
 use Rattle.tk_hash.proofs.store.HashStore.put_staged.Goals as goal
 
 pub append-requires-clause-here : goal.append-requires-clause-here
@@ -19,10 +18,8 @@ append-requires-clause-here g c =
 
 pub returns-in_err-told-clause-kept : goal.returns-in_err-told-clause-kept
 returns-in_err-told-clause-kept g c first since hard st =
-    let s = c.args.self.now in
     let is = c.requires.staged.1 in
-    keeps_torn g.D.Disk.may_leave g.D.Disk.moment g.D.Disk.left_since (log_head s.log) (groups_held first.held ++ take hard since) _ _ _ _
-    (inr (front_ends (log_head s.log) (groups_held first.held) since hard (log_end s.log) (groups_end g.D.Disk.image g.D.Disk.may_leave s first since hard st)))
+    appended_keeps g.D.Disk.image g.D.Disk.may_leave g.D.Disk.moment g.D.Disk.left_since c.args.self.now first since hard st _ _
     (c.append.ensures.crash c.requires.staged.0 is.links is.ready) (c.append.ensures.time c.requires.staged.0 is.links is.ready)
 
 pub put_heads-requires-clause-there : goal.put_heads-requires-clause-there
@@ -37,23 +34,19 @@ pub returns-in_err-told-2-clause-kept : goal.returns-in_err-told-2-clause-kept
 returns-in_err-told-2-clause-kept g c first since hard st =
     let s = c.args.self.now in
     let is = c.requires.staged.1 in
-    let within : 64 + 8 * 2 ^ (log_head c.append.new.self).p ≤ base_of (log_head s.log).p = subst (λ (k : StaticHead). 64 + 8 * 2 ^ k.p ≤ base_of (log_head s.log).p) (sym c.append.ensures.head) (omega arith) in
-    keeps_joined g.D.Disk.may_leave g.D.Disk.moment g.D.Disk.left_since (log_head s.log) (groups_held first.held ++ take hard since) _ _ _
-    (keeps_torn g.D.Disk.may_leave g.D.Disk.moment g.D.Disk.left_since (log_head s.log) (groups_held first.held ++ take hard since) _ _ _ _
-    (inr (front_ends (log_head s.log) (groups_held first.held) since hard (log_end s.log) (groups_end g.D.Disk.image g.D.Disk.may_leave s first since hard st)))
+    put_keeps g.D.Disk.image g.D.Disk.may_leave g.D.Disk.moment g.D.Disk.left_since s first since hard st _ _ _ c.append.ensures.head
+    (appended_keeps g.D.Disk.image g.D.Disk.may_leave g.D.Disk.moment g.D.Disk.left_since s first since hard st _ _
     (c.append.ensures.crash c.requires.staged.0 is.links is.ready) (c.append.ensures.time c.requires.staged.0 is.links is.ready))
-    (keeps_torn g.D.Disk.may_leave g.D.Disk.moment g.D.Disk.left_since (log_head s.log) (groups_held first.held ++ take hard since) _ _ _ _ (inl (omega arith, within)) c.put_heads.ensures.crash c.put_heads.ensures.time)
+    c.put_heads.ensures.crash c.put_heads.ensures.time
 
 pub returns-clause-kept : goal.returns-clause-kept
 returns-clause-kept g c first since hard st =
     let s = c.args.self.now in
     let is = c.requires.staged.1 in
-    let within : 64 + 8 * 2 ^ (log_head c.append.new.self).p ≤ base_of (log_head s.log).p = subst (λ (k : StaticHead). 64 + 8 * 2 ^ k.p ≤ base_of (log_head s.log).p) (sym c.append.ensures.head) (omega arith) in
-    keeps_joined g.D.Disk.may_leave g.D.Disk.moment g.D.Disk.left_since (log_head s.log) (groups_held first.held ++ take hard since) _ _ _
-    (keeps_torn g.D.Disk.may_leave g.D.Disk.moment g.D.Disk.left_since (log_head s.log) (groups_held first.held ++ take hard since) _ _ _ _
-    (inr (front_ends (log_head s.log) (groups_held first.held) since hard (log_end s.log) (groups_end g.D.Disk.image g.D.Disk.may_leave s first since hard st)))
+    put_keeps g.D.Disk.image g.D.Disk.may_leave g.D.Disk.moment g.D.Disk.left_since s first since hard st _ _ _ c.append.ensures.head
+    (appended_keeps g.D.Disk.image g.D.Disk.may_leave g.D.Disk.moment g.D.Disk.left_since s first since hard st _ _
     (c.append.ensures.crash c.requires.staged.0 is.links is.ready) (c.append.ensures.time c.requires.staged.0 is.links is.ready))
-    (keeps_torn g.D.Disk.may_leave g.D.Disk.moment g.D.Disk.left_since (log_head s.log) (groups_held first.held ++ take hard since) _ _ _ _ (inl (omega arith, within)) c.put_heads.ensures.crash c.put_heads.ensures.time)
+    c.put_heads.ensures.crash c.put_heads.ensures.time
 
 pub returns-clause-stands : goal.returns-clause-stands
 returns-clause-stands g c changes is fits alone first since hard st =
