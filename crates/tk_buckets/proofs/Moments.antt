@@ -1,5 +1,5 @@
 -- Readings one after another.
-use Rattle.std.proofs.Common.{◌≡◌, ◌⊎◌, inl, inr, ⊎_elim, ℕ, ◌≤◌, true, List, refl, arith}
+use Rattle.std.proofs.Common.{◌≡◌, inl, inr, ⊎_elim, ℕ, ◌≤◌, true, List, refl, arith}
 use Rattle.std.specs.Prelude.{Option, Some, None, IfSome}
 use Rattle.tk_disk.specs.Crash.{Torn, Follows, Within, Elapses, LeavesOnly}
 use Rattle.tk_block.specs.declared.head.StaticHead.{StaticHead}

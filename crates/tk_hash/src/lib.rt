@@ -12,3 +12,6 @@ mod shelf;
 mod store;
 
 pub use store::HashStore;
+
+#[cfg(test)]
+mod shelf_tests;
