@@ -1,11 +1,14 @@
+pub mod BlockFronts
 pub mod Bounds
 pub mod ChainsSteps
 pub mod Checked
 pub mod ClosedFiles
-pub mod Countings
+pub mod DiskChecks
 pub mod FreshSteps
+pub mod Fronts
 pub mod Groupings
 pub mod Joined
+pub mod KeySteps
 pub mod Layouts
 pub mod LogSteps
 pub mod NewestHeads
@@ -14,5 +17,7 @@ pub mod PlanLoop
 pub mod PlanSteps
 pub mod Readings
 pub mod Reopened
+pub mod Scans
 pub mod WalkerSteps
 pub mod Walks
+pub mod Windows

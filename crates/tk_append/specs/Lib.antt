@@ -4,6 +4,7 @@ pub mod FileText
 pub mod Counted
 pub mod Fresh
 pub mod Hashed
+pub mod Keys
 pub mod Log
 pub mod LogParts
 pub mod Opened
@@ -13,3 +14,4 @@ pub mod Pieces
 pub mod Read
 pub mod Restored
 pub mod Walked
+pub mod Windows

@@ -1,24 +1,23 @@
-use Rattle.std.proofs.Common.{length, sym, ◌∙◌, ap, subst, arith}
-use Rattle.std.specs.Prelude.{None, Some}
-use Rattle.tk_append.specs.Chains.{HeadsAre}
-use Rattle.tk_append.specs.Walked.{least_behind}
-use Rattle.tk_append.specs.Checked.{Finds}
-use Rattle.tk_append.proofs.Checked.{none_open, end_told, always_ok}
+use Rattle.std.proofs.Common.{◌≡◌, ◌+◌, ℕ, List, sym, ◌∙◌, ap, subst, length, arith}
+use Rattle.tk_block.specs.Text.{base_of}
+use Rattle.tk_append.specs.Walked.{Shows}
+use Rattle.tk_append.proofs.DiskChecks.{has_heads, heads_fail}
+use Rattle.tk_append.proofs.Checked.{none_open}
 use Rattle.tk_append.proofs.check.check_end.Goals as goal
 
-pub head_fault-requires : goal.head_fault-requires
-head_fault-requires c = omega (arith, c.requires, ap length c.deref.ensures.value, c.settle.ensures.same)
+pub returns-clause-ends : goal.returns-clause-ends
+returns-clause-ends g c h place w at =
+    let image = g.D.Disk.image c.args.disk.now in
+    let bytes = c.deref.result.now in
+    let whole = none_open w c.args.walker.now.open_group at.open_group c.in_default.is in
+    let len : 64 + length bytes ≡ base_of h.p = omega (arith, ap length c.deref.ensures.value, c.in_ok-bytes.ensures.len, c.len.ensures, at.heads.whole) in
+    has_heads c.check_heads.result image h w c.args.closing.now c.args.writable bytes len (subst (λ (l : List ℕ). Shows image 64 l) (sym c.deref.ensures.value) c.in_ok-bytes.ensures.shown) c.check_heads.ensures.small whole
+    (λ f starts. c.check_heads.ensures.exact h place w f at whole starts)
 
-pub returns-in-Some-head_fault-clause-exact : goal.returns-in-Some-head_fault-clause-exact
-returns-in-Some-head_fault-clause-exact c h place w at =
-    let are : HeadsAre h.p c.deref.result.now w.blocks = subst (λ l. HeadsAre h.p l w.blocks) (sym c.deref.ensures.value) (c.settle.ensures.heads h.p place w.blocks at.heads) in
-    end_told c.args.writable h c.args.closing.now c.args.bytes.now w (Some c.in-Some-head_fault.place) (none_open w c.args.walker.now.open_group at.open_group c.in_default.is) (c.in-Some-head_fault.ensures h.p w.blocks are)
-
-pub returns-clause-exact : goal.returns-clause-exact
-returns-clause-exact c h place w at =
-    let are : HeadsAre h.p c.deref.result.now w.blocks = subst (λ l. HeadsAre h.p l w.blocks) (sym c.deref.ensures.value) (c.settle.ensures.heads h.p place w.blocks at.heads) in
-    let told = end_told c.args.writable h c.args.closing.now c.args.bytes.now w None (none_open w c.args.walker.now.open_group at.open_group c.in_default.is) (c.in_default-head_fault.ensures h.p w.blocks are) in
-    subst (Finds c.check_count.result) (sym told) (c.check_count.ensures w (c.len.ensures ∙ ap length (c.settle.ensures.records ∙ at.records)) (at.least ∙ ap least_behind (sym c.settle.ensures.before)))
-
-pub returns-clause-heads : goal.returns-clause-heads
-returns-clause-heads c p place w at = always_ok c.check_count.result (c.settle.ensures.heads p place w.blocks at.heads)
+pub returns-clause-fails : goal.returns-clause-fails
+returns-clause-fails g c h place w at =
+    let image = g.D.Disk.image c.args.disk.now in
+    let bytes = c.deref.result.now in
+    let whole = none_open w c.args.walker.now.open_group at.open_group c.in_default.is in
+    heads_fail c.check_heads.result image h w c.args.closing.now c.args.writable bytes _ (subst (λ (l : List ℕ). Shows image 64 l) (sym c.deref.ensures.value) c.in_ok-bytes.ensures.shown)
+    (λ f starts. c.check_heads.ensures.exact h place w f at whole starts)
