@@ -1,4 +1,4 @@
-use Rattle.std.proofs.Common.{◌≡◌, ◌+◌, ℕ, List, sym, ◌∙◌, ap, subst, length, arith}
+use Rattle.std.proofs.Common.{◌≡◌, ◌+◌, ℕ, List, sym, ap, subst, length, arith}
 use Rattle.tk_block.specs.Text.{base_of}
 use Rattle.tk_append.specs.Walked.{Shows}
 use Rattle.tk_append.proofs.DiskChecks.{has_heads, heads_fail}

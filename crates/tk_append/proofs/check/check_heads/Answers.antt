@@ -1,4 +1,4 @@
-use Rattle.std.proofs.Common.{length, sym, ◌∙◌, ap, subst, arith}
+use Rattle.std.proofs.Common.{length, sym, ◌∙◌, ap, subst}
 use Rattle.std.specs.Prelude.{◌≡◌, None, Some}
 use Rattle.std.specs.HashSet.{hash_set_len}
 use Rattle.tk_append.specs.Opening.{records_in}

@@ -1,4 +1,4 @@
-use Rattle.std.proofs.Common.{ℕ, List, sym, ◌∙◌, ap, subst, length, arith}
+use Rattle.std.proofs.Common.{ℕ, List, ◌∙◌, subst, arith}
 use Rattle.std.specs.Prelude.{Option}
 use Rattle.tk_append.specs.Walked.{Shows}
 use Rattle.tk_append.proofs.DiskChecks.{too_short, closing_cause, sizes}

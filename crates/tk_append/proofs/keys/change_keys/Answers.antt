@@ -1,4 +1,3 @@
-use Rattle.std.proofs.Common.{sym, subst}
 use Rattle.tk_append.proofs.KeySteps.{drop_keys}
 use Rattle.tk_append.proofs.keys.change_keys.Goals as goal
 

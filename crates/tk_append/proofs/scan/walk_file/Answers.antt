@@ -1,4 +1,4 @@
-use Rattle.std.proofs.Common.{◌≡◌, ◌∙◌, ℕ, List, refl, sym, subst, arith}
+use Rattle.std.proofs.Common.{◌∙◌, ℕ, List, refl, subst, arith}
 use Rattle.std.specs.Prelude.{Option}
 use Rattle.tk_append.specs.Opening.{Walk}
 use Rattle.tk_append.specs.Walked.{IsAt, Passed, Fails, Shows, WalkFails}

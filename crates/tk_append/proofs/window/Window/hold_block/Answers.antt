@@ -2,7 +2,6 @@ use Rattle.std.proofs.Common.{arith, ap, length, ◌∙◌}
 use Rattle.tk_append.specs.Windows.{items}
 use Rattle.tk_append.proofs.Windows.{fill_holds}
 use Rattle.tk_block.specs.Number.{u64_in}
-use Rattle.tk_append.proofs.BlockFronts.{same_block}
 use Rattle.tk_append.proofs.window.Window.hold_block.Goals as goal
 
 pub returns-clause-block : goal.returns-clause-block
