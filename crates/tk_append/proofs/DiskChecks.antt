@@ -108,7 +108,7 @@ module _ (image : Option (List ℕ)) (kinds : List ℕ) (writable : Bool) (shard
       (shows_both image 64 (base_of found.head.p) e.heads all.blocks (omega (arith, e.len)) e.shown all.shown))
       fr.size
       (λ f is long.
-          sym (take_all (length bytes) f (omega (arith, long, length_whole fr e.heads all.blocks (base_of found.head.p) e.len all.whole))) ∙ is)
+      sym (take_all (length bytes) f (omega (arith, long, length_whole fr e.heads all.blocks (base_of found.head.p) e.len all.whole))) ∙ is)
 
   pub closed_on : (fr : IsFront image kinds found) (all : WalkedAll image found.head shard found.closing.size walker) → HasHeads image found.head all.w found.closing writable → IsClosedOn image kinds writable shard found
   closed_on fr all e =
@@ -145,7 +145,7 @@ module _ (image : Option (List ℕ)) (kinds : List ℕ) (writable : Bool) (shard
       (if_both image (λ f. StartsWith f fr.front) (λ f. length f ≡ found.closing.size) (λ f. StartsWith f fr.front × (length f ≡ found.closing.size)) fr.shown fr.size (λ f a b. (a, b)))
       (if_both image (λ f. StartsWith (drop (base_of found.head.p) f) all.blocks) (λ f. least ≤ length f → TellsCause e (end_fault writable found.head found.closing f (Ends all.w))) (λ f. StartsWith (drop (base_of found.head.p) f) all.blocks × (least ≤ length f → TellsCause e (end_fault writable found.head found.closing f (Ends all.w)))) all.shown fails (λ f a b. (a, b)))
       (λ f a b.
-          subst (λ (x : Option OpenError). TellsCause e x) (first_behind image kinds writable shard found fr f (Ends all.w) a.0 a.1 (all.ends f (blocks_there all f b.0 a.1))) (b.1 (omega (arith, low, a.1))))
+      subst (λ (x : Option OpenError). TellsCause e x) (first_behind image kinds writable shard found fr f (Ends all.w) a.0 a.1 (all.ends f (blocks_there all f b.0 a.1))) (b.1 (omega (arith, low, a.1))))
 
 -- an error that is handed on
 pub tells_on : {T : Type 0} (r : Result T OpenError) (e : OpenError) (P : List ℕ → Option OpenError) (image : Option (List ℕ)) → IsErrAnd r (λ x. x ≡ e) → IfSome image (λ f. TellsCause e (P f)) → IfSome image (λ f. TellsResult r (P f))

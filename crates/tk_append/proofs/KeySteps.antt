@@ -39,8 +39,8 @@ keeps_apart key k old new keeps apart =
     keeps (λ v. bytes_eq k v.items)
     (λ x y is. ap (λ (l : List ℕ). bytes_eq l y.items) (same_is k x.items is))
     (λ v is. not_true (bytes_eq k v.items) (λ also.
-        let same : key ≡ k = same_is key v.items is ∙ sym (same_is k v.items also) in
-        let yes : bytes_eq key k ≡ true = (bytes_eq-Decides key k).1 same in cc))
+    let same : key ≡ k = same_is key v.items is ∙ sym (same_is k v.items also) in
+    let yes : bytes_eq key k ≡ true = (bytes_eq-Decides key k).1 same in cc))
 
 changed_by : {S : Type 0} (t : Bool) (key k : List ℕ) (old new : HashSet (Vec ℕ) S) (b : Bool) → bytes_eq key k ≡ t → Changes key old new b → has new k ≡ cond t b (has old k)
 changed_by true key k old new b is u = subst (λ (l : List ℕ). has new l ≡ b) (same_is key k is) u.1

@@ -144,16 +144,16 @@ pub scan_fault : (image : Option (List ℕ)) (h : StaticHead) (shard : ShardOf) 
 scan_fault image h shard size place old bytes walker e s here shown holds fails =
     if_both image (λ f. StartsWith (drop (base_of h.p) f) s.passed) (λ f. StartsWith (drop place f) bytes) (λ f. length f ≡ size → WalkFails h shard f e) s.passed_shown shown
     (λ f first then long.
-        let rest : List ℕ = drop (length bytes) (drop place f) in
-        let behind : drop place f ≡ bytes ++ rest = cut (drop place f) bytes then in
-        let before : drop (base_of h.p) f ≡ s.passed ++ (bytes ++ rest) =
-        cut (drop (base_of h.p) f) s.passed first
-        ∙ ap (λ (l : List ℕ). s.passed ++ l) (drop-drop (length s.passed) (base_of h.p) f ∙ ap (λ (n : ℕ). drop n f) (sym s.place_is) ∙ behind) in
-        let most : ℕ = length f - s.count - 1 in
-        let enough : length f ≡ s.count + suc most = omega (arith, long, here, s.few, s.place_is) in
-        stops h shard f s.w place most (bytes ++ rest) e (omega (arith, ap length behind, length-drop place f, long, here))
-        (walk_behind image h shard size place old walker s f (bytes ++ rest) (suc most) before enough)
-        (fails_all h shard s.w place (size - place) bytes rest e holds (λ all. drop_all (length bytes) (drop place f) (omega (arith, all, long, length-drop place f))) (fails s.w s.at)))
+    let rest : List ℕ = drop (length bytes) (drop place f) in
+    let behind : drop place f ≡ bytes ++ rest = cut (drop place f) bytes then in
+    let before : drop (base_of h.p) f ≡ s.passed ++ (bytes ++ rest) =
+    cut (drop (base_of h.p) f) s.passed first
+    ∙ ap (λ (l : List ℕ). s.passed ++ l) (drop-drop (length s.passed) (base_of h.p) f ∙ ap (λ (n : ℕ). drop n f) (sym s.place_is) ∙ behind) in
+    let most : ℕ = length f - s.count - 1 in
+    let enough : length f ≡ s.count + suc most = omega (arith, long, here, s.few, s.place_is) in
+    stops h shard f s.w place most (bytes ++ rest) e (omega (arith, ap length behind, length-drop place f, long, here))
+    (walk_behind image h shard size place old walker s f (bytes ++ rest) (suc most) before enough)
+    (fails_all h shard s.w place (size - place) bytes rest e holds (λ all. drop_all (length bytes) (drop place f) (omega (arith, all, long, length-drop place f))) (fails s.w s.at)))
 
 fails_outside : (h : StaticHead) (shard : ShardOf) (f : List ℕ) (e : OpenError) → IsOutside e → WalkFails h shard f e
 fails_outside h shard f (BrokenAt q) out = absurd out
