@@ -11,16 +11,17 @@ use Rattle.tk_model.specs.declared.error.OpenError.TheVariants.{NotADatabase, Br
 use Rattle.tk_block.specs.Text.{base_of, closing_at}
 use Rattle.tk_block.specs.declared.head.StaticHead.{StaticHead}
 use Rattle.tk_block.specs.declared.closing.Closing.{Closing}
+use Rattle.tk_append.specs.Chains.{HeadsAre}
 use Rattle.tk_append.specs.Opening.{Walk, Outcome, FailsAt, Ends, walk, first_fault, closing_fault, end_fault}
 use Rattle.tk_append.specs.Log.{TellsCause}
 use Rattle.tk_append.specs.Read.{IsOutside, IsClosedOn, TellsResult}
 use Rattle.tk_append.specs.Walked.{IsAt, Shows, WalkedAll, WalkFails}
-use Rattle.tk_append.specs.Checked.{Finds, FindsCause, HeadIn, ClosingIn, IsFront, HasHeads, IsFound, IsClosed}
+use Rattle.tk_append.specs.Checked.{Finds, FindsCause, HeadIn, ClosingIn, IsFront, HasHeads, HeadFails, IsFound, IsClosed}
 use Rattle.tk_append.specs.declared.check.Found.{Found}
 use Rattle.tk_append.specs.declared.walker.Walker.{Walker}
 use Rattle.tk_append.proofs.Windows.{cut, starts, shows_both}
 use Rattle.tk_append.proofs.Scans.{small_both}
-use Rattle.tk_append.proofs.Checked.{to_the_end, short_file}
+use Rattle.tk_append.proofs.Checked.{to_the_end, end_told, short_file}
 use Rattle.tk_append.proofs.ClosedFiles.{closed_is}
 
 if_some : (o : Option (List ℕ)) (P Q : List ℕ → Type 0) → IfSome o P → ((f : List ℕ) → P f → Q f) → IfSome o Q
@@ -53,6 +54,11 @@ pub heads_fail : {T : Type 0} (r : Result T OpenError) (image : Option (List ℕ
 heads_fail r image h w c writable heads least shown ends =
     if_some image (λ f. StartsWith (drop 64 f) heads) (λ f. least ≤ length f → IfErr r (λ e. TellsCause e (end_fault writable h c f (Ends w)))) shown
     (λ f is long. err_tells r (end_fault writable h c f (Ends w)) (ends f is))
+
+pub head_cause : (image : Option (List ℕ)) (h : StaticHead) (w : Walk) (c : Closing) (writable : Bool) (heads : List ℕ) (place least : ℕ) → HeadFails image heads place → HeadsAre h.p heads w.blocks → w.open_group ≡ None
+    → IfSome image (λ f. least ≤ length f → end_fault writable h c f (Ends w) ≡ Some (BrokenAt place))
+head_cause None h w c writable heads place least fails are whole = tt
+head_cause (Some f) h w c writable heads place least fails are whole = λ long. end_told writable h c f w (Some place) whole (sym (fails h.p w.blocks are))
 
 -- ---- the parts together
 

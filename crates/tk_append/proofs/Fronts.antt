@@ -27,6 +27,6 @@ behind : (f : List ℕ) (start at : ℕ) → u64_in f (start + at) ≡ u64_in (d
 unfolding u64_in
 behind f start at = ap (λ (l : List ℕ). from_be_bytes w64 (take 8 l)) (sym (drop-drop at start f))
 
--- a head of the file, by the bytes of all heads
-pub head_word : (f bytes : List ℕ) (at : ℕ) → at + 8 ≤ length bytes → StartsWith (drop 64 f) bytes → u64_in f (64 + at) ≡ u64_in bytes at
-head_word f bytes at fits a = behind f 64 at ∙ u64_same bytes (drop 64 f) at fits a
+-- a number of the file, by the bytes from a place on
+pub word_behind : (f bytes : List ℕ) (start at : ℕ) → at + 8 ≤ length bytes → StartsWith (drop start f) bytes → u64_in f (start + at) ≡ u64_in bytes at
+word_behind f bytes start at fits a = behind f start at ∙ u64_same bytes (drop start f) at fits a

@@ -7,6 +7,7 @@ pub mod DiskChecks
 pub mod FreshSteps
 pub mod Fronts
 pub mod Groupings
+pub mod HeadSteps
 pub mod Joined
 pub mod KeySteps
 pub mod Layouts

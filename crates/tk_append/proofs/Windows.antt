@@ -56,10 +56,10 @@ starts_both f xs ys a b =
     ap (λ (n : ℕ). take n f) (length-append xs ys) ∙ take-add (length xs) (length ys) f
     ∙ ap (λ (l : List ℕ). l ++ take (length ys) (drop (length xs) f)) a ∙ ap (λ (l : List ℕ). xs ++ l) b
 
-starts_first : (f xs ys : List ℕ) → StartsWith f (xs ++ ys) → StartsWith f xs
+pub starts_first : (f xs ys : List ℕ) → StartsWith f (xs ++ ys) → StartsWith f xs
 starts_first f xs ys a = starts f xs (ys ++ drop (length (xs ++ ys)) f) (cut f (xs ++ ys) a ∙ append_assoc xs ys (drop (length (xs ++ ys)) f))
 
-starts_rest : (f xs ys : List ℕ) → StartsWith f (xs ++ ys) → StartsWith (drop (length xs) f) ys
+pub starts_rest : (f xs ys : List ℕ) → StartsWith f (xs ++ ys) → StartsWith (drop (length xs) f) ys
 starts_rest f xs ys a =
     let rest : List ℕ = drop (length (xs ++ ys)) f in
     starts (drop (length xs) f) ys rest (ap (λ (l : List ℕ). drop (length xs) l) (cut f (xs ++ ys) a ∙ append_assoc xs ys rest) ∙ drop-append_seam xs (ys ++ rest))

@@ -1,5 +1,5 @@
 -- What the check of a whole file answers.
-use Rattle.std.specs.Prelude.{◌≡◌, ◌≤◌, ◌<◌, ◌^◌, ◌+◌, ◌==◌, ℕ, Bool, true, List, [], length, drop, slice_index, Option, Some, None, IfSome, Result, Ok, Err}
+use Rattle.std.specs.Prelude.{◌≡◌, ◌≤◌, ◌<◌, ◌^◌, ◌+◌, ◌*◌, ◌==◌, ℕ, Bool, true, List, [], length, drop, slice_index, Option, Some, None, IfSome, Result, Ok, Err}
 use Rattle.std.specs.Io.{StartsWith}
 use Rattle.std.specs.List.{list_any}
 use Rattle.tk_model.specs.declared.record.Group.{Group}
@@ -7,13 +7,14 @@ use Rattle.tk_model.specs.declared.record.ShardOf.{ShardOf}
 use Rattle.tk_model.specs.declared.error.OpenError.{OpenError}
 use Rattle.tk_model.specs.declared.error.OpenError.TheVariants as errors
 use Rattle.tk_block.specs.Text.{is_static, static_at, closing_at, base_of}
-use Rattle.tk_block.specs.Layout.{bodies_of, end_of}
+use Rattle.tk_block.specs.Layout.{Placed, bodies_of, end_of}
 use Rattle.tk_model.specs.Records.{replay}
 use Rattle.tk_model.specs.declared.record.Order.TheVariants.{Hash}
 use Rattle.tk_block.specs.declared.head.StaticHead.{StaticHead}
 use Rattle.tk_block.specs.declared.closing.Closing.{Closing}
 use Rattle.tk_append.specs.Log.{AreGroups, AllHome, closed_text}
-use Rattle.tk_append.specs.Opening.{Walk, Ends, walk, closing_fault, end_fault, first_fault}
+use Rattle.tk_append.specs.Chains.{HeadsAre}
+use Rattle.tk_append.specs.Opening.{Walk, Ends, walk, head_fault, closing_fault, end_fault, first_fault}
 use Rattle.tk_append.specs.Walked.{Shows}
 use Rattle.tk_append.specs.declared.check.Found.{Found}
 
@@ -53,6 +54,18 @@ pub record IsFront (image : Option (List ℕ)) (kinds : List ℕ) (found : Found
   pub closing : (f : List ℕ) → StartsWith f front → length f ≡ found.closing.size → ClosingIn found.head.p f found.closing
   pub power : found.head.p ≤ 24
   pub base : base_of found.head.p ≤ found.closing.size
+
+-- the disk has these heads, which are read as these bytes
+pub record HeadsStand (image : Option (List ℕ)) (heads : List ℕ) : Type 0 where
+  pub bytes : List ℕ
+  pub len : length bytes ≡ 8 * length heads
+  pub shown : Shows image 64 bytes
+  pub small : (i : ℕ) → slice_index bytes i < 256
+  pub same : (p : ℕ) (blocks : List Placed) (f : List ℕ) → HeadsAre p heads blocks → StartsWith (drop 64 f) bytes → head_fault p blocks f (2 ^ p) 0 ≡ None
+
+-- the disk, where it tells its bytes, has another head first at this place
+abbrev pub HeadFails : (image : Option (List ℕ)) (heads : List ℕ) (place : ℕ) → Type 0
+HeadFails image heads place = IfSome image (λ f. (p : ℕ) (blocks : List Placed) → HeadsAre p heads blocks → head_fault p blocks f (2 ^ p) 0 ≡ Some place)
 
 -- the heads of a file, behind which nothing fails
 pub record HasHeads (image : Option (List ℕ)) (h : StaticHead) (w : Walk) (c : Closing) (writable : Bool) : Type 0 where

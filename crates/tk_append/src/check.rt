@@ -4,22 +4,21 @@ ghost use Rattle.std.specs.Io.{StartsWith};
 ghost use Rattle.tk_model.specs.declared.record.ShardOf.{ShardOf as Shard};
 ghost use Rattle.tk_model.specs.declared.error.OpenError.TheVariants as OpenError;
 ghost use Rattle.tk_block.specs.Text.{closing_at, static_at, base_of};
-ghost use Rattle.tk_block.specs.Layout.{Placed};
 ghost use Rattle.tk_block.specs.declared.head.StaticHead.{StaticHead as Head};
-ghost use Rattle.tk_append.specs.Opening.{Walk, Ends, records_in, first_fault, closing_fault, end_fault, head_fault, count_fault};
-ghost use Rattle.tk_append.specs.Chains.{HeadsAre};
+ghost use Rattle.tk_append.specs.Opening.{Walk, Ends, records_in, first_fault, closing_fault, end_fault, count_fault};
 ghost use Rattle.tk_append.specs.Log.{TellsCause};
 ghost use Rattle.tk_append.specs.Walked.{IsAt, NewestIn, Shows, live_head, least_behind};
 ghost use Rattle.tk_append.specs.Checked.{Finds, FindsCause, HeadIn, ClosingIn, IsFront, HasHeads};
 ghost use Rattle.tk_append.specs.Read.{IsOutside, HasOpenCause, IsClosedOn, OnlyReads, TellsResult};
 
+use crate::heads::head_fault;
 use crate::scan::walk_file;
 use crate::walker::Walker;
 use crate::window::read_piece;
 use std::alloc::Global;
-use tk_block::{Closing, StaticHead, base_of, read_closing, read_static, u64_at};
+use tk_block::{Closing, StaticHead, base_of, read_closing, read_static};
 use tk_disk::{Disk, DiskError};
-use tk_model::{NoMemory, OpenError, ShardOf};
+use tk_model::{OpenError, ShardOf};
 
 /// What a file's header says.
 #[derive(Clone, Copy)]
@@ -106,43 +105,6 @@ fn read_front<D: Disk>(disk: &mut D, kinds: &[u8]) -> Result<Found, OpenError>
     Ok(Found { head, closing })
 }
 
-/// The place of the first head that is not this one, by the bytes of all heads.
-fn head_fault(bytes: &[u8], heads: &[u64]) -> Option<u64>
-    requires { 8 * length heads.now ≡ length bytes.now }
-    ensures { (p : ℕ) (blocks : List Placed) (f : List ℕ) → HeadsAre p heads.now blocks → StartsWith (drop 64 f) bytes.now → result ≡ head_fault p blocks f (2 ^ p) 0 }
-{
-    for (bucket, head) in heads.iter().enumerate() {
-        if u64_at(bytes, 8 * bucket) != *head {
-            return Some(64 + 8 * bucket as u64);
-        }
-    }
-    None
-}
-
-/// So many zero bytes.
-fn zeros(alloc: Global, len: usize) -> Result<Vec<u8>, NoMemory>
-    ensures { IfOk result (λ b. length b.items ≡ len) }
-{
-    let mut bytes = Vec::new(alloc);
-    bytes.resize(len, 0)?;
-    Ok(bytes)
-}
-
-/// The bytes of so many heads.
-fn read_heads<D: Disk>(alloc: Global, disk: &mut D, count: usize) -> Result<Vec<u8>, OpenError>
-    requires { count ≤ 2 ^ 24 }
-    ensures shown { IfOk result (λ b. Shows (D.image disk.old) 64 b.items) }
-    ensures len { IfOk result (λ b. length b.items ≡ 8 * count) }
-    ensures outside { IfSome (D.image disk.old) (λ f. 64 + 8 * count ≤ length f → IfErr result IsOutside) }
-    ensures image { D.image disk.new ≡ D.image disk.old }
-    ensures cause { HasOpenCause (D.fault_count disk.old) (D.fault_count disk.new) result }
-    ensures still { OnlyReads D.may_leave D.moment D.left_since disk.old disk.new }
-{
-    let mut bytes = zeros(alloc, 8 * count)?;
-    read_piece(disk, 64, &mut bytes)?;
-    Ok(bytes)
-}
-
 /// The closing part tells the number of records, and a next number above all.
 fn check_count(
     writable: bool,
@@ -161,25 +123,6 @@ fn check_count(
         return Err(OpenError::BrokenAt(48));
     }
     Ok(())
-}
-
-/// Behind the blocks: the heads are right and the closing part fits.
-fn check_heads(
-    walker: &mut Walker,
-    bytes: &[u8],
-    closing: &Closing,
-    writable: bool,
-) -> Result<(), OpenError>
-    requires { 8 * length walker.old.heads.items ≡ length bytes.now }
-    ensures exact { (h : Head) (place : ℕ) (w : Walk) (f : List ℕ) → IsAt h.p place walker.old w → w.open_group ≡ None → StartsWith (drop 64 f) bytes.now → Finds result (end_fault writable h closing.now f (Ends w)) }
-    ensures no_fault { IsErrOf result OpenError.Fault → ⊥ }
-    ensures small { (i : ℕ) → slice_index bytes.now i < 256 }
-{
-    walker.settle();
-    if let Some(place) = head_fault(bytes, &walker.heads) {
-        return Err(OpenError::BrokenAt(place));
-    }
-    check_count(writable, closing, walker.keys.len(), walker.before)
 }
 
 /// Behind the blocks: the last group is complete, the heads are right and the closing part fits.
@@ -201,8 +144,11 @@ fn check_end<D: Disk>(
     if let Some(first) = walker.open_group {
         return Err(OpenError::BrokenAt(first.place));
     }
-    let bytes = read_heads(alloc, disk, walker.heads.len())?;
-    check_heads(walker, &bytes, closing, writable)
+    walker.settle();
+    match head_fault(alloc, disk, &walker.heads)? {
+        Some(place) => Err(OpenError::BrokenAt(place)),
+        None => check_count(writable, closing, walker.keys.len(), walker.before),
+    }
 }
 
 /// Checks the disk's file, from its front to its end, and answers what its header says, or what fails first.

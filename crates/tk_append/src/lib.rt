@@ -6,6 +6,7 @@ mod chains;
 mod check;
 mod fresh;
 mod hashed;
+mod heads;
 mod keys;
 mod law;
 mod log;
