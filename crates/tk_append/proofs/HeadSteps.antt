@@ -54,16 +54,6 @@ piece_other heads bytes first i count place so len below fits other is p blocks 
 
 -- ---- all pieces
 
-pub heads_first : (image : Option (List ℕ)) (heads : List ℕ) → HeadsSo image heads 0
-heads_first image heads = record {
-  bytes = [];
-  len = refl;
-  within = omega arith;
-  shown = shows_none image 64;
-  small = λ i. omega arith;
-  same = λ p blocks f are starts. ap (λ (n : ℕ). head_fault p blocks f n 0) (omega arith);
-}
-
 behind_first : (f bytes new : List ℕ) (first : ℕ) → length bytes ≡ 8 * first → StartsWith (drop 64 f) (bytes ++ new) → StartsWith (drop (64 + 8 * first) f) new
 behind_first f bytes new first len starts =
     subst (λ (l : List ℕ). StartsWith l new) (drop-drop (length bytes) 64 f ∙ ap (λ (n : ℕ). drop (64 + n) f) len) (starts_rest (drop 64 f) bytes new starts)
@@ -77,16 +67,6 @@ heads_more image heads new first count s len within shown small goes = record {
   shown = shows_both image 64 (64 + 8 * first) s.bytes new (omega (arith, s.len)) s.shown shown;
   small = small_both s.bytes new s.small small;
   same = λ p blocks f are starts. sym (goes p blocks f are (behind_first f s.bytes new first s.len starts)) ∙ s.same p blocks f are (starts_first (drop 64 f) s.bytes new starts);
-}
-
-pub heads_all : (image : Option (List ℕ)) (heads : List ℕ) (first : ℕ) → HeadsSo image heads first → length heads ≤ first → HeadsStand image heads
-heads_all image heads first s past = record {
-  bytes = s.bytes;
-  len = omega (arith, s.len, s.within);
-  shown = s.shown;
-  small = s.small;
-  same = λ p blocks f are starts.
-      sym (s.same p blocks f are starts) ∙ ap (λ (n : ℕ). head_fault p blocks f n first) (let e : 2 ^ p - first ≡ 0 = omega (arith, are.whole) in e);
 }
 
 pub heads_fail_at : (image : Option (List ℕ)) (heads new : List ℕ) (first place : ℕ) → HeadsSo image heads first → Shows image (64 + 8 * first) new → PieceFails heads new first place → HeadFails image heads place

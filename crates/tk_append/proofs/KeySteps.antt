@@ -75,10 +75,6 @@ without_length : (k : List ℕ) (m : List Pair) → length m ≡ cond (is_some (
 without_length k [] = refl
 without_length k (p ∷ ps) = without_length_by (same_bytes k p.key) k p ps refl (without_length k ps)
 
-same_spelled : (a b : List ℕ) → bytes_eq a b ≡ same_bytes a b
-unfolding same_bytes
-same_spelled a b = refl
-
 bytes_flipped : (t : Bool) (a b : List ℕ) → same_bytes a b ≡ t → bytes_eq b a ≡ t
 bytes_flipped true a b is = (bytes_eq-Decides b a).1 (sym (same_told a b is))
 bytes_flipped false a b is = not_true (bytes_eq b a) (λ yes. let e : same_bytes a b ≡ true = subst (λ (k : List ℕ). same_bytes a k ≡ true) (sym (same_is b a yes)) (same_itself a) in cc)

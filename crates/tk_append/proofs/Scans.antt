@@ -155,12 +155,6 @@ scan_fault image h shard size place old bytes walker e s here shown holds fails 
     (walk_behind image h shard size place old walker s f (bytes ++ rest) (suc most) before enough)
     (fails_all h shard s.w place (size - place) bytes rest e holds (λ all. drop_all (length bytes) (drop place f) (omega (arith, all, long, length-drop place f))) (fails s.w s.at)))
 
-fails_outside : (h : StaticHead) (shard : ShardOf) (f : List ℕ) (e : OpenError) → IsOutside e → WalkFails h shard f e
-fails_outside h shard f (BrokenAt q) out = absurd out
-fails_outside h shard f NotADatabase out = absurd out
-fails_outside h shard f Fault out = tt
-fails_outside h shard f NoMemory out = tt
-
 -- an error that is handed on
 pub handed : {T : Type 0} (r : Result T OpenError) (cause : OpenError) (P : List ℕ → OpenError → Type 0) (image : Option (List ℕ)) (size : ℕ) → IsErrAnd r (λ e. e ≡ cause) → IfSome image (λ f. length f ≡ size → P f cause)
     → IfSome image (λ f. length f ≡ size → IfErr r (P f))
@@ -168,11 +162,6 @@ handed (Ok x) cause P None size is holds = tt
 handed (Ok x) cause P (Some f) size is holds = λ long. tt
 handed (Err e) cause P None size is holds = tt
 handed (Err e) cause P (Some f) size is holds = λ long. subst (P f) (sym is) (holds long)
-
--- a cause that says nothing of the file
-pub outside_fails : (image : Option (List ℕ)) (h : StaticHead) (shard : ShardOf) (size sum : ℕ) (e : OpenError) → sum ≡ size → IfSome image (λ f. sum ≤ length f → IsOutside e) → IfSome image (λ f. length f ≡ size → WalkFails h shard f e)
-outside_fails None h shard size sum e is out = tt
-outside_fails (Some f) h shard size sum e is out = λ long. fails_outside h shard f e (out (omega (arith, long, is)))
 
 -- ---- readings one after the other
 

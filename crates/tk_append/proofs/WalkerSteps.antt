@@ -159,8 +159,3 @@ walk_next n h shard w place (x ∷ xs) some = refl
 pub walk_end : (n : ℕ) (h : StaticHead) (shard : ShardOf) (w : Walk) (place : ℕ) (bytes : List ℕ) → bytes ≡ [] → walk_on n h shard w place bytes ≡ Ends w
 walk_end n h shard w place [] is = refl
 walk_end n h shard w place (x ∷ xs) is = absurd (cc is)
-
--- an error that is handed on
-pub handed_on : {T : Type 0} (r : Result T OpenError) (cause : OpenError) (P : OpenError → Type 0) → IsErrAnd r (λ e. e ≡ cause) → P cause → IfErr r P
-handed_on (Ok x) cause P is holds = tt
-handed_on (Err e) cause P is holds = subst P (sym is) holds

@@ -85,10 +85,6 @@ pub shows_none : (image : Option (List ℕ)) (at : ℕ) → Shows image at []
 shows_none None at = tt
 shows_none (Some f) at = refl
 
--- what a window holds is among the front of what it held before, and more
-pub grows : (xs ys more : List ℕ) → ys ≡ xs ++ more → StartsWith ys xs
-grows xs ys more is = starts ys xs more is
-
 -- a number among the bytes that a list starts with
 pub u64_same : (xs ys : List ℕ) (at : ℕ) → at + 8 ≤ length xs → StartsWith ys xs → u64_in ys at ≡ u64_in xs at
 unfolding u64_in
@@ -120,10 +116,6 @@ fill_holds (Err x) left e old new is long starts enough within = tt
 fill_holds (Ok x) left e old new is long starts enough within =
     let same : u64_in new 4 ≡ u64_in old 4 = u64_same old new 4 (omega arith) starts in
     held_by (nat_le left e) left e new refl (same ∙ sym is) (omega (arith, ap length starts, length-take (length old) new)) enough within
-
--- a block of an extent that no block has
-pub holds_long : (left e : ℕ) (bytes : List ℕ) → e ≡ u64_in bytes 4 → 24 ≤ length bytes → 2 ^ 26 < e → HoldsBlock left bytes
-holds_long left e bytes is long great = inr (long, λ small. absurd (omega arith))
 
 pub length_put : (at k : ℕ) (xs ys : List ℕ) → at + k ≤ length xs → length ys ≡ k → length (put_mid at k xs ys) ≡ length xs
 length_put at k xs ys fits is =
