@@ -26,7 +26,6 @@ use Rattle.tk_block.specs.Layout.{Placed, newest, laid, end_of, texts, links_of,
 use Rattle.tk_block.proofs.Bodies.{two_true, joined_front}
 use Rattle.tk_block.proofs.Grammar.{static_found, closing_found}
 use Rattle.tk_block.proofs.Layouts.{laid-append}
-use Rattle.tk_append.specs.Chains.{HeadsAre}
 use Rattle.tk_append.specs.Log.{AreGroups, AllIn, AllHome, blocks_of, closed_text}
 use Rattle.tk_append.specs.OpeningLaws.{IsClosedFile, OpensOnlyClosed}
 use Rattle.tk_model.specs.Entries.{is_in_shard, holds_key}
@@ -242,13 +241,13 @@ closed_is kinds writable shard f found are none is =
     let m = made kinds writable shard f h c is.w are is.head is.closing is.ends is.whole s in
     record {
       groups = m.groups;
-      read = record {
-        head = (static_found f h is.head).0.0;
-        legal = m.legal;
-        records_are = is.records ∙ m.records;
-        heads_are = subst (λ (l : List Placed). HeadsAre h.p found.heads.items l) m.blocks is.heads;
-        end_is = m.end;
-      };
+      head = (static_found f h is.head).0.0;
+      generation = (static_found f h is.head).0.1;
+      legal = m.legal;
+      number = (closing_found (drop 32 f) c is.closing).0.2;
+      count = s.count ∙ ap length m.records;
+      size = m.end;
+      bound = (closing_found (drop 32 f) c is.closing).0.0;
       text = m.text;
       kind = s.kind;
       home = m.home;

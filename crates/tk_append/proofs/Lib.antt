@@ -1,12 +1,16 @@
+pub mod BlockFronts
 pub mod Bounds
 pub mod ChainsSteps
 pub mod Checked
 pub mod ClosedFiles
-pub mod Countings
+pub mod DiskChecks
 pub mod Elapsed
 pub mod FreshSteps
+pub mod Fronts
 pub mod Groupings
+pub mod HeadSteps
 pub mod Joined
+pub mod KeySteps
 pub mod Layouts
 pub mod LogSteps
 pub mod NewestHeads
@@ -17,5 +21,7 @@ pub mod Readings
 pub mod Reopened
 pub mod Rereading
 pub mod Restoring
+pub mod Scans
 pub mod WalkerSteps
 pub mod Walks
+pub mod Windows

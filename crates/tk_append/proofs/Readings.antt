@@ -1,20 +1,23 @@
 -- The log of a file that was read has its groups.
-use Rattle.std.proofs.Common.{◌≡◌, ◌≤◌, ℕ, List, [], ◌++◌, length, drop, refl, sym, ◌∙◌, ap, subst, arith, append_assoc}
+use Rattle.std.proofs.Common.{◌≡◌, ◌<◌, ◌^◌, ◌≤◌, ℕ, List, [], ◌++◌, length, drop, refl, sym, ◌∙◌, ap, subst, arith, append_assoc}
 use Rattle.std.specs.Prelude.{Bool, Option, Some, None, IfSome}
 use Rattle.std.proofs.lemmas.List.{drop_at, length-append}
 use Rattle.tk_model.specs.declared.record.Group.{Group}
 use Rattle.tk_model.specs.declared.record.ShardOf.{ShardOf}
 use Rattle.tk_block.specs.declared.head.StaticHead.{StaticHead}
 use Rattle.tk_block.specs.declared.closing.Closing.{Closing}
-use Rattle.tk_block.specs.Text.{static_text, closing_text, base_of}
+use Rattle.tk_block.specs.Text.{is_static, static_text, closing_text, base_of}
 use Rattle.tk_block.specs.Layout.{end_of, bodies_of, heads_text, texts, links_of, file_text}
 use Rattle.tk_block.proofs.Grammar.{length-static_text, length-closing_text}
 use Rattle.tk_block.proofs.Lengths.{length-heads_text, length-file_text}
 use Rattle.tk_disk.specs.Crash.{Torn, Follows, Within}
 use Rattle.tk_append.proofs.Layouts.{end_of-least}
-use Rattle.tk_append.specs.Log.{HasGroups, IsRead, AllHome, blocks_of, closed_text}
+use Rattle.tk_append.specs.Log.{HasGroups, AllHome, blocks_of, closed_text}
+use Rattle.tk_model.specs.Records.{replay}
+use Rattle.tk_model.specs.declared.record.Order.TheVariants.{Hash}
 use Rattle.tk_append.specs.LogParts.{Stands, log_disk, log_head, log_end}
-use Rattle.tk_append.specs.Read.{IsClosedOn, HasRead}
+use Rattle.tk_append.specs.Read.{IsClosedOn}
+use Rattle.tk_append.specs.Counted.{HasCounted}
 use Rattle.tk_append.specs.declared.check.Found.{Found}
 use Rattle.tk_append.specs.declared.log.GroupLog.{GroupLog}
 
@@ -43,25 +46,31 @@ if_some (Some f) P Q holds more = more f holds
 pub log_stands : {D : Type 0} (image : D → Option (List ℕ)) (old : Option (List ℕ)) (log : GroupLog D) (kinds : List ℕ) (writable : Bool) (shard : ShardOf) (found : Found) (is : IsClosedOn old kinds writable shard found)
     → log_head log ≡ found.head → log_end log ≡ found.closing.size → image (log_disk log) ≡ old → Stands image log is.closed.groups
 log_stands image old log kinds writable shard found is head end same = record {
-  end_is = end ∙ is.closed.read.end_is ∙ ap (λ (h : StaticHead). end_of (base_of h.p) (bodies_of is.closed.groups)) (sym head);
+  end_is = end ∙ is.closed.size ∙ ap (λ (h : StaticHead). end_of (base_of h.p) (bodies_of is.closed.groups)) (sym head);
   there = subst (λ (o : Option (List ℕ)). IfSome o (HasGroups (log_head log) is.closed.groups)) (sym same)
       (subst (λ (h : StaticHead). IfSome old (HasGroups h is.closed.groups)) (sym head)
       (if_some old (λ f. f ≡ is.bytes) (HasGroups found.head is.closed.groups) is.told (λ f same_bytes. closed_groups found.head is.closed.groups found.closing.next f (same_bytes ∙ is.closed.text))));
 }
 
--- what was read
-pub read_of : {D : Type 0} (image : D → Option (List ℕ)) (disk : D) (log : GroupLog D) (kinds : List ℕ) (writable : Bool) (shard : ShardOf) (found : Found) → IsClosedOn (image disk) kinds writable shard found
-    → log_head log ≡ found.head → log_end log ≡ found.closing.size → image (log_disk log) ≡ image disk → HasRead image disk shard (record { log = log; records = found.records; heads = found.heads; next = found.closing.next })
-read_of image disk log kinds writable shard found is head end same =
+-- what was read, counted
+pub counted_of : {D : Type 0} (image : D → Option (List ℕ)) (disk : D) (log : GroupLog D) (kinds : List ℕ) (writable : Bool) (shard : ShardOf) (found : Found) → IsClosedOn (image disk) kinds writable shard found
+    → log_head log ≡ found.head → log_end log ≡ found.closing.size → image (log_disk log) ≡ image disk → HasCounted image disk shard (record { log = log; count = found.closing.count; next = found.closing.next })
+counted_of image disk log kinds writable shard found is head end same =
     let groups = is.closed.groups in
+    let next = found.closing.next in
     record {
       groups = groups;
-      read = subst (λ (h : StaticHead). IsRead h (log_end log) found.records found.heads.items found.closing.next groups) (sym head)
-          (subst (λ (n : ℕ). IsRead found.head n found.records found.heads.items found.closing.next groups) (sym end) is.closed.read);
+      head = ap (λ (h : StaticHead). is_static h) head ∙ is.closed.head;
+      generation = subst (λ (h : StaticHead). h.generation < 2 ^ 64) (sym head) is.closed.generation;
+      legal = is.closed.legal;
+      number = is.closed.number;
+      count = is.closed.count;
       stands = log_stands image (image disk) log kinds writable shard found is head end same;
       home = subst (λ (h : StaticHead). h.kind ≡ 1 → AllHome shard groups) (sym head) is.closed.home;
-      text = if_some (image disk) (λ f. f ≡ is.bytes) (λ f. f ≡ closed_text (log_head log) groups found.closing.next) is.told
-          (λ f same_bytes. same_bytes ∙ is.closed.text ∙ ap (λ (h : StaticHead). closed_text h groups found.closing.next) (sym head));
+      text = if_some (image disk) (λ f. f ≡ is.bytes) (λ f. f ≡ closed_text (log_head log) groups next) is.told
+          (λ f same_bytes. same_bytes ∙ is.closed.text ∙ ap (λ (h : StaticHead). closed_text h groups next) (sym head));
+      size = if_some (image disk) (λ f. f ≡ is.bytes) (λ f. length f < 2 ^ 64) is.told
+          (λ f same_bytes. omega (arith, ap length (same_bytes ∙ is.closed.text), length-file_text found.head groups (length (replay Hash groups [])) next, is.closed.size, is.closed.bound));
     }
 
 -- a file of groups has its header

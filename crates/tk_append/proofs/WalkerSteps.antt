@@ -1,5 +1,5 @@
 -- A walk over blocks, block by block.
-use Rattle.std.proofs.Common.{◌≡◌, ℕ, zero, suc, ◌+◌, ◌-◌, ◌<◌, ◌≤◌, true, false, cond, List, [], ◌∷◌, ◌++◌, length, take, drop, refl, sym, ◌∙◌, ap, subst, arith}
+use Rattle.std.proofs.Common.{◌≡◌, ℕ, zero, suc, ◌+◌, ◌-◌, ◌<◌, ◌≤◌, true, false, cond, List, [], ◌∷◌, ◌++◌, length, get_or, take, drop, refl, sym, ◌∙◌, ap, subst, arith}
 use Rattle.std.specs.Result.{IsErrAnd}
 use Rattle.std.specs.Prelude.{Result, Ok, Err, IfErr, Option, Some, None, option_map, map, ◌==◌, not, nat_le}
 use Rattle.std.proofs.lemmas.List.{drop_all, take_all, length-drop, drop-drop}
@@ -23,7 +23,8 @@ use Rattle.tk_block.proofs.Bodies.{two_true}
 use Rattle.tk_block.proofs.BodyGrammar.{bodies}
 use Rattle.tk_block.specs.Blocks.{said, extent_of, body_at, check_in, is_body}
 use Rattle.tk_append.specs.Opening.{Walk, Outcome, FailsAt, Ends, begin, walk, walk_on, walk_block, walked, may_stand, is_padded, is_in_turn, is_home, change_in, records_in, opened_by}
-use Rattle.tk_append.specs.Walked.{HasNone, HasBlock, MayFollow, Fails, IsAt, NewestIn, IsOfKind, Passed, WalkedAll, WalkFails, least_behind, as_open}
+use Rattle.tk_append.specs.Keys.{HasKeys}
+use Rattle.tk_append.specs.Walked.{HasNone, HasBlock, MayFollow, Fails, IsAt, NewestIn, IsOfKind, Passed, least_behind, as_open}
 
 no_body : (place : ℕ) → body_at [] place ≡ None
 unfolding body_at
@@ -114,17 +115,17 @@ pub records_more : (blocks : List Placed) (x : Placed) → records_in (blocks ++
 records_more blocks x = after_more blocks x []
 
 -- the walker behind one block more
-pub walked_on : (p place next : ℕ) (old headed new : Walker) (w : Walk) (b : Body) (change : Change) (records : List Pair)
-    → IsAt p place old w → change ≡ change_in b → records ≡ after_one Hash change old.records
-    → NewestIn p next headed.heads.items headed.cleared (w.blocks ++ record { place = place; body = b } ∷ []) → headed.records ≡ records → headed.before ≡ old.before → headed.open_group ≡ old.open_group
-    → new.heads.items ≡ headed.heads.items → new.cleared ≡ headed.cleared → new.records ≡ headed.records
+pub walked_on : (p place next : ℕ) (old headed new : Walker) (w : Walk) (b : Body)
+    → IsAt p place old w → HasKeys new.keys (after_one Hash (change_in b) (records_in w.blocks))
+    → NewestIn p next headed.heads.items headed.cleared (w.blocks ++ record { place = place; body = b } ∷ []) → headed.before ≡ old.before → headed.open_group ≡ old.open_group
+    → new.heads.items ≡ headed.heads.items → new.cleared ≡ headed.cleared
     → ((least : ℕ) → least ≡ least_behind headed.before → cond b.last (b.number + 1) least ≡ least_behind new.before)
     → ((first : Option Placed) → headed.open_group ≡ option_map as_open first → new.open_group ≡ option_map as_open (opened_by first (record { place = place; body = b })))
     → IsAt p next new (walked w (record { place = place; body = b }))
-walked_on p place next old headed new w b change records at is done heads kept before open_group items cleared same least first = record {
+walked_on p place next old headed new w b at keys heads before open_group items cleared least first = record {
   heads = subst (λ (l : List ℕ). NewestIn p next l new.cleared (w.blocks ++ record { place = place; body = b } ∷ [])) (sym items)
       (subst (λ (n : ℕ). NewestIn p next headed.heads.items n (w.blocks ++ record { place = place; body = b } ∷ [])) (sym cleared) heads);
-  records = same ∙ kept ∙ done ∙ ap (λ (c : Change). after_one Hash c old.records) is ∙ ap (after_one Hash (change_in b)) at.records ∙ sym (records_more w.blocks (record { place = place; body = b }));
+  keys = subst (λ (l : List Pair). HasKeys new.keys l) (sym (records_more w.blocks (record { place = place; body = b }))) keys;
   least = least w.least (at.least ∙ ap least_behind (sym before));
   open_group = first w.open_group (open_group ∙ at.open_group);
 }
@@ -136,9 +137,9 @@ pub of_kind : (bytes : List ℕ) (extent : ℕ) (h : StaticHead) (shard : ShardO
 of_kind bytes extent h shard w b valid stands = kinds_left b valid (stood h shard w bytes extent b stands).other
 
 -- the block is passed
-pub passed : (h : StaticHead) (shard : ShardOf) (w : Walk) (place e : ℕ) (bytes : List ℕ) (b : Body) (walker : Walker) → MayFollow h shard w place bytes e b
+pub passed : (h : StaticHead) (shard : ShardOf) (w : Walk) (place e : ℕ) (bytes : List ℕ) (b : Body) (walker : Walker) → ((i : ℕ) → get_or bytes i 0 < 256) → MayFollow h shard w place bytes e b
     → ((next : ℕ) → IsOfKind b → place < next → IsAt h.p next walker (walked w (record { place = place; body = b }))) → Passed h shard w place bytes e walker
-passed h shard w place e bytes b walker follows at =
+passed h shard w place e bytes b walker small follows at =
     let s = stood h shard w bytes e b follows.stands in
     let fits = ((bodies place).found (drop 24 bytes) b follows.body).0 in
     record {
@@ -147,6 +148,7 @@ passed h shard w place e bytes b walker follows at =
       at = at (place + e) (of_kind bytes e h shard w b fits.0 follows.stands) (omega (arith, s.least));
       some = omega (arith, s.least);
       within = s.within;
+      small = small;
     }
 
 pub walk_next : (n : ℕ) (h : StaticHead) (shard : ShardOf) (w : Walk) (place : ℕ) (bytes : List ℕ) → 0 < length bytes
@@ -154,73 +156,6 @@ pub walk_next : (n : ℕ) (h : StaticHead) (shard : ShardOf) (w : Walk) (place :
 walk_next n h shard w place [] some = absurd (omega arith)
 walk_next n h shard w place (x ∷ xs) some = refl
 
--- how far a walk over a file has come
-pub record Reached (h : StaticHead) (shard : ShardOf) (f : List ℕ) (place : ℕ) (walker : Walker) : Type 0 where
-  pub w : Walk
-  pub most : ℕ
-  pub at : IsAt h.p place walker w
-  pub within : place ≤ length f
-  pub enough : length f ≤ place + most
-  pub rest : walk_on most h shard w place (drop place f) ≡ walk h shard f
-
-pub reached_first : (h : StaticHead) (shard : ShardOf) (f : List ℕ) (walker : Walker) → IsAt h.p (base_of h.p) walker begin → base_of h.p ≤ length f → Reached h shard f (base_of h.p) walker
-unfolding walk
-reached_first h shard f walker at long = record { w = begin; most = length f; at = at; within = long; enough = omega arith; rest = refl }
-
-rest_of : (place : ℕ) (f bytes : List ℕ) → bytes ≡ take (length f - place) (drop place f) → bytes ≡ drop place f
-rest_of place f bytes is = is ∙ take_all (length f - place) (drop place f) (omega (arith, length-drop place f))
-
-further : (h : StaticHead) (shard : ShardOf) (f : List ℕ) (place e most : ℕ) (w : Walk) (new : Walker) → place < length f → length f ≤ place + most → walk_on most h shard w place (drop place f) ≡ walk h shard f
-    → Passed h shard w place (drop place f) e new → Reached h shard f (place + e) new
-further h shard f place e zero w new here enough rest p = absurd (omega arith)
-further h shard f place e (suc n) w new here enough rest p =
-    let x : Placed = record { place = place; body = p.body } in
-    record {
-      w = walked w x;
-      most = n;
-      at = p.at;
-      within = omega (arith, p.within, length-drop place f);
-      enough = omega (arith, p.some);
-      rest = ap (λ (l : List ℕ). walk_on n h shard (walked w x) (place + e) l) (sym (drop-drop e place f))
-          ∙ sym (goes_on h shard w place e (drop place f) p.body (λ v k. walk_on n h shard v (place + k) (drop k (drop place f))) p.follows)
-          ∙ sym (walk_next n h shard w place (drop place f) (omega (arith, length-drop place f)))
-          ∙ rest;
-    }
-
--- one block further
-pub reached_next : (h : StaticHead) (shard : ShardOf) (f : List ℕ) (place e : ℕ) (old new : Walker) → Reached h shard f place old → place < length f
-    → ((w : Walk) → IsAt h.p place old w → Passed h shard w place (take (length f - place) (drop place f)) e new) → Reached h shard f (place + e) new
-reached_next h shard f place e old new r here p =
-    further h shard f place e r.most r.w new here r.enough r.rest (subst (λ (l : List ℕ). Passed h shard r.w place l e new) (rest_of place f _ refl) (p r.w r.at))
-
-stops_at : (h : StaticHead) (shard : ShardOf) (f : List ℕ) (place most : ℕ) (w : Walk) (e : OpenError) → place < length f → length f ≤ place + most → walk_on most h shard w place (drop place f) ≡ walk h shard f
-    → Fails h shard w place (drop place f) e → WalkFails h shard f e
-stops_at h shard f place zero w e here enough rest fails = absurd (omega arith)
-stops_at h shard f place (suc n) w (BrokenAt q) here enough rest fails = sym rest ∙ walk_next n h shard w place (drop place f) (omega (arith, length-drop place f)) ∙ fails _
-stops_at h shard f place (suc n) w NotADatabase here enough rest fails = absurd fails
-stops_at h shard f place (suc n) w Fault here enough rest fails = absurd fails
-stops_at h shard f place (suc n) w NoMemory here enough rest fails = tt
-
--- a block that fails stops the walk
-pub reached_fault : (h : StaticHead) (shard : ShardOf) (f : List ℕ) (place : ℕ) (old : Walker) (e : OpenError) → Reached h shard f place old → place < length f
-    → ((w : Walk) → IsAt h.p place old w → Fails h shard w place (take (length f - place) (drop place f)) e) → WalkFails h shard f e
-reached_fault h shard f place old e r here fails =
-    stops_at h shard f place r.most r.w e here r.enough r.rest (subst (λ (l : List ℕ). Fails h shard r.w place l e) (rest_of place f _ refl) (fails r.w r.at))
-
-walk_end : (n : ℕ) (h : StaticHead) (shard : ShardOf) (w : Walk) (place : ℕ) (bytes : List ℕ) → bytes ≡ [] → walk_on n h shard w place bytes ≡ Ends w
+pub walk_end : (n : ℕ) (h : StaticHead) (shard : ShardOf) (w : Walk) (place : ℕ) (bytes : List ℕ) → bytes ≡ [] → walk_on n h shard w place bytes ≡ Ends w
 walk_end n h shard w place [] is = refl
 walk_end n h shard w place (x ∷ xs) is = absurd (cc is)
-
-pub reached_end : (h : StaticHead) (shard : ShardOf) (f : List ℕ) (place : ℕ) (walker : Walker) → Reached h shard f place walker → length f ≤ place → WalkedAll h shard f walker
-reached_end h shard f place walker r past =
-    let here : place ≡ length f = omega (arith, r.within) in
-    record {
-      w = r.w;
-      ends = sym r.rest ∙ walk_end r.most h shard r.w place (drop place f) (drop_all place f past);
-      at = subst (λ (n : ℕ). IsAt h.p n walker r.w) here r.at;
-    }
-
--- an error that is handed on
-pub handed_on : {T : Type 0} (r : Result T OpenError) (cause : OpenError) (P : OpenError → Type 0) → IsErrAnd r (λ e. e ≡ cause) → P cause → IfErr r P
-handed_on (Ok x) cause P is holds = tt
-handed_on (Err e) cause P is holds = subst P (sym is) holds

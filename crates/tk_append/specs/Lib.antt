@@ -4,6 +4,7 @@ pub mod FileText
 pub mod Counted
 pub mod Fresh
 pub mod Hashed
+pub mod Keys
 pub mod Log
 pub mod LogParts
 pub mod Opened
@@ -15,3 +16,4 @@ pub mod Reread
 pub mod Restored
 pub mod RestoringLaws
 pub mod Walked
+pub mod Windows

@@ -3,14 +3,11 @@ use Rattle.std.specs.Prelude.{◌≡◌, ℕ, ◌≤◌, Bool, List, Option, Non
 use Rattle.tk_disk.specs.Crash.{Within, Elapses}
 use Rattle.tk_disk.specs.Disk.{Rose}
 use Rattle.tk_model.specs.declared.record.ShardOf.{ShardOf}
-use Rattle.tk_model.specs.declared.record.Group.{Group}
 use Rattle.tk_model.specs.declared.error.OpenError.{OpenError}
 use Rattle.tk_model.specs.declared.error.OpenError.TheVariants as errors
-use Rattle.tk_append.specs.Log.{IsRead, AllHome, TellsCause, closed_text}
+use Rattle.tk_append.specs.Log.{TellsCause}
 use Rattle.tk_append.specs.Checked.{IsClosed}
 use Rattle.tk_append.specs.declared.check.Found.{Found}
-use Rattle.tk_append.specs.LogParts.{Stands, log_head, log_end}
-use Rattle.tk_append.specs.declared.read.ReadLog.{ReadLog}
 
 -- a cause that says nothing of the file
 abbrev pub IsOutside : OpenError → Type 0
@@ -24,14 +21,6 @@ pub record HasOpenCause {T : Type 0} (before now : ℕ) (result : Result T OpenE
   pub later : before ≤ now
   pub kept : OnOk result (now ≡ before)
   pub fault : IsErrOf result errors.Fault → Rose before now
-
--- what was read is a file of these groups, which the log has, the closed file of them where the disk tells its bytes
-pub record HasRead {D : Type 0} (image : D → Option (List ℕ)) (disk : D) (shard : ShardOf) (r : ReadLog D) : Type 0 where
-  pub groups : List Group
-  pub read : IsRead (log_head r.log) (log_end r.log) r.records r.heads.items r.next groups
-  pub stands : Stands image r.log groups
-  pub home : (log_head r.log).kind ≡ 1 → AllHome shard groups
-  pub text : IfSome (image disk) (λ f. f ≡ closed_text (log_head r.log) groups r.next)
 
 -- the answer of a check, as far as it speaks of the file
 abbrev pub TellsResult : {T : Type 0} → Result T OpenError → Option OpenError → Type 0

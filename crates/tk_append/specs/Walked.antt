@@ -1,15 +1,17 @@
 -- What a walk over the blocks of a file keeps, and what it answers.
-use Rattle.std.specs.Prelude.{◌≡◌, ℕ, ◌+◌, ◌^◌, ◌<◌, ◌≤◌, List, length, drop, slice_index, Bool, true, not, ◌&&◌, ◌||◌, ◌==◌, nat_le, Option, Some, None, option_map, if◌then◌else◌, nat_lt}
+use Rattle.std.specs.Prelude.{◌≡◌, ℕ, ◌+◌, ◌^◌, ◌<◌, ◌≤◌, List, length, drop, slice_index, Bool, true, not, ◌&&◌, ◌||◌, ◌==◌, nat_le, Option, Some, None, option_map, IfSome, ◌⊎◌, if◌then◌else◌, nat_lt}
 use Rattle.tk_model.specs.Hashes.{mix_of}
 use Rattle.tk_model.specs.declared.record.ShardOf.{ShardOf}
 use Rattle.tk_model.specs.declared.error.OpenError.{OpenError}
 use Rattle.tk_model.specs.declared.error.OpenError.TheVariants as errors
 use Rattle.tk_block.specs.Number.{u64_in}
-use Rattle.tk_block.specs.Text.{head_at}
+use Rattle.std.specs.Io.{StartsWith}
+use Rattle.tk_block.specs.Text.{head_at, base_of}
 use Rattle.tk_block.specs.Blocks.{IsSmall, body_at, said}
 use Rattle.tk_block.specs.Layout.{Placed, newest, link_of}
 use Rattle.tk_block.specs.declared.block.Body.{Body}
 use Rattle.tk_block.specs.declared.head.StaticHead.{StaticHead}
+use Rattle.tk_append.specs.Keys.{HasKeys}
 use Rattle.tk_append.specs.Opening.{Walk, Outcome, FailsAt, Ends, walk, walk_block, walked, may_stand, records_in}
 use Rattle.tk_append.specs.declared.walker.Walker.{Walker}
 use Rattle.tk_append.specs.declared.walker.OpenGroup.{OpenGroup}
@@ -37,7 +39,7 @@ as_open x = record { place = x.place; number = x.body.number }
 -- the walker knows what this walk over blocks says
 pub record IsAt (p place : ℕ) (walker : Walker) (w : Walk) : Type 0 where
   pub heads : NewestIn p place walker.heads.items walker.cleared w.blocks
-  pub records : walker.records ≡ records_in w.blocks
+  pub keys : HasKeys walker.keys (records_in w.blocks)
   pub least : w.least ≡ least_behind walker.before
   pub open_group : walker.open_group ≡ option_map as_open w.open_group
 
@@ -85,16 +87,29 @@ pub record Passed (h : StaticHead) (shard : ShardOf) (w : Walk) (place : ℕ) (b
   pub at : IsAt h.p (place + extent) walker (walked w (record { place = place; body = body }))
   pub some : 0 < extent
   pub within : extent ≤ length bytes
+  pub small : (i : ℕ) → slice_index bytes i < 256
 
--- the walk to the end of a file, and what is known there
-pub record WalkedAll (h : StaticHead) (shard : ShardOf) (f : List ℕ) (walker : Walker) : Type 0 where
+-- the disk, where it tells its bytes, has these at a place
+abbrev pub Shows : (image : Option (List ℕ)) (at : ℕ) (xs : List ℕ) → Type 0
+Shows image at xs = IfSome image (λ f. StartsWith (drop at f) xs)
+
+-- the bytes at the front of those that are left have the block that stands there, where it is no longer than a block can be, or they are all
+abbrev pub HoldsBlock : (left : ℕ) (bytes : List ℕ) → Type 0
+HoldsBlock left bytes = (length bytes ≡ left) ⊎ ((24 ≤ length bytes) × (u64_in bytes 4 ≤ 2 ^ 26 → u64_in bytes 4 ≤ length bytes))
+
+-- the walk to the end of a file of this size, and what is known there
+pub record WalkedAll (image : Option (List ℕ)) (h : StaticHead) (shard : ShardOf) (size : ℕ) (walker : Walker) : Type 0 where
+  pub blocks : List ℕ
   pub w : Walk
-  pub ends : walk h shard f ≡ Ends w
-  pub at : IsAt h.p (length f) walker w
+  pub whole : base_of h.p + length blocks ≡ size
+  pub shown : Shows image (base_of h.p) blocks
+  pub small : (i : ℕ) → slice_index blocks i < 256
+  pub ends : (f : List ℕ) → drop (base_of h.p) f ≡ blocks → walk h shard f ≡ Ends w
+  pub at : IsAt h.p size walker w
 
--- the walk fails at this place
+-- the walk fails at this place, or the cause says nothing of the file
 abbrev pub WalkFails : (h : StaticHead) (shard : ShardOf) (f : List ℕ) → OpenError → Type 0
 WalkFails h shard f (errors.BrokenAt at) = walk h shard f ≡ FailsAt at
 WalkFails h shard f errors.NotADatabase = ⊥
-WalkFails h shard f errors.Fault = ⊥
+WalkFails h shard f errors.Fault = Unit {0}
 WalkFails h shard f errors.NoMemory = Unit {0}

@@ -1,27 +1,45 @@
-ghost use Rattle.std.specs.Prelude.{◌≡◌, ◌≤◌, ◌<◌, ◌^◌, ◌+◌, ◌*◌, ◌==◌, ℕ, Bool, List, length, drop, None, Some, IfOk, IfErr, OnOk};
+ghost use Rattle.std.specs.Prelude.{◌≡◌, ◌≤◌, ◌<◌, ◌^◌, ◌+◌, ◌*◌, ◌==◌, ℕ, Bool, List, length, take, drop, None, Some, IfOk, IfErr, IsErrOf, IfSome, OnOk, slice_index};
 ghost use Rattle.std.specs.List.{list_any};
+ghost use Rattle.std.specs.Io.{StartsWith};
 ghost use Rattle.tk_model.specs.declared.record.ShardOf.{ShardOf as Shard};
-ghost use Rattle.tk_block.specs.Text.{closing_at};
-ghost use Rattle.tk_block.specs.Layout.{Placed};
+ghost use Rattle.tk_model.specs.declared.error.OpenError.TheVariants as OpenError;
+ghost use Rattle.tk_block.specs.Text.{closing_at, static_at, base_of};
 ghost use Rattle.tk_block.specs.declared.head.StaticHead.{StaticHead as Head};
-ghost use Rattle.tk_append.specs.Opening.{Walk, Ends, records_in, first_fault, closing_fault, end_fault, head_fault, count_fault};
-ghost use Rattle.tk_append.specs.Chains.{HeadsAre};
-ghost use Rattle.tk_append.specs.Walked.{IsAt, NewestIn, live_head, least_behind};
-ghost use Rattle.tk_append.specs.Checked.{Finds, FindsCause, HeadIn, ClosingIn, IsFound, IsClosed};
+ghost use Rattle.tk_append.specs.Opening.{Walk, Ends, records_in, first_fault, closing_fault, end_fault, count_fault};
+ghost use Rattle.tk_append.specs.Log.{TellsCause};
+ghost use Rattle.tk_append.specs.Walked.{IsAt, NewestIn, Shows, live_head, least_behind};
+ghost use Rattle.tk_append.specs.Checked.{Finds, FindsCause, HeadIn, ClosingIn, IsFront, HasHeads};
+ghost use Rattle.tk_append.specs.Read.{IsOutside, HasOpenCause, IsClosedOn, OnlyReads, TellsResult};
 
-use crate::hashed::HashedRecords;
+use crate::heads::head_fault;
+use crate::scan::walk_file;
 use crate::walker::Walker;
+use crate::window::read_piece;
 use std::alloc::Global;
-use tk_block::{Closing, StaticHead, base_of, read_closing, read_static, u64_at};
+use tk_block::{Closing, StaticHead, base_of, read_closing, read_static};
+use tk_disk::{Disk, DiskError};
 use tk_model::{OpenError, ShardOf};
 
-/// What a file holds.
-#[derive(Drop)]
+/// What a file's header says.
+#[derive(Clone, Copy)]
 pub(crate) struct Found {
     pub head: StaticHead,
     pub closing: Closing,
-    pub records: HashedRecords,
-    pub heads: Vec<u64>,
+}
+
+/// The length of the disk's file.
+fn length_of<D: Disk>(disk: &mut D) -> Result<u64, OpenError>
+    ensures value { IfSome (D.image disk.old) (λ f. IfOk result (λ n. n ≡ length f)) }
+    ensures image { D.image disk.new ≡ D.image disk.old }
+    ensures outside { IfErr result IsOutside }
+    ensures cause { HasOpenCause (D.fault_count disk.old) (D.fault_count disk.new) result }
+    ensures still { OnlyReads D.may_leave D.moment D.left_since disk.old disk.new }
+{
+    match disk.len() {
+        Ok(len) => Ok(len),
+        Err(DiskError::Fault) => Err(OpenError::Fault),
+        Err(DiskError::NoMemory) => Err(OpenError::NoMemory),
+    }
 }
 
 fn is_among(kinds: &[u8], kind: u8) -> bool
@@ -30,16 +48,16 @@ fn is_among(kinds: &[u8], kind: u8) -> bool
     kinds.contains(&kind)
 }
 
-/// The header of a file of one of these kinds.
-fn head_in(bytes: &[u8], kinds: &[u8]) -> Result<StaticHead, OpenError>
-    ensures found { IfOk result (HeadIn kinds.now bytes.now) }
+/// The header of a file of one of these kinds, by the file's front.
+fn head_in(front: &[u8], kinds: &[u8]) -> Result<StaticHead, OpenError>
+    requires long { length front.now ≡ 64 }
+    ensures found { (f : List ℕ) → StartsWith f front.now → IfOk result (HeadIn kinds.now f) }
     ensures p { IfOk result (λ h. h.p ≤ 24) }
-    ensures fails { (writable : Bool) (shard : Shard) → IfErr result (λ e. FindsCause e (first_fault kinds.now writable shard bytes.now)) }
+    ensures fails { (writable : Bool) (shard : Shard) (f : List ℕ) → StartsWith f front.now → IfErr result (λ e. FindsCause e (first_fault kinds.now writable shard f)) }
+    ensures no_fault { IsErrOf result OpenError.Fault → ⊥ }
+    ensures small { (i : ℕ) → slice_index front.now i < 256 }
 {
-    if bytes.len() < 64 {
-        return Err(OpenError::NotADatabase);
-    }
-    let Some(head) = read_static(bytes) else {
+    let Some(head) = read_static(front) else {
         return Err(OpenError::NotADatabase);
     };
     if !is_among(kinds, head.kind) {
@@ -48,34 +66,43 @@ fn head_in(bytes: &[u8], kinds: &[u8]) -> Result<StaticHead, OpenError>
     Ok(head)
 }
 
-/// The closing part of a file of this length.
-fn closing_in(bytes: &[u8], p: u8) -> Result<Closing, OpenError>
+/// The closing part of a file of this size, by the file's front.
+fn closing_in(front: &[u8], size: u64, p: u8) -> Result<Closing, OpenError>
     requires p { p ≤ 24 }
-    requires long { 64 ≤ length bytes.now }
-    ensures found { IfOk result (ClosingIn p bytes.now) }
-    ensures fails { (writable : Bool) (h : Head) (shard : Shard) → h.p ≡ p → IfErr result (λ e. FindsCause e (closing_fault writable h shard bytes.now (closing_at (drop 32 bytes.now)))) }
+    requires long { length front.now ≡ 64 }
+    ensures found { (f : List ℕ) → StartsWith f front.now → length f ≡ size → IfOk result (ClosingIn p f) }
+    ensures fails { (writable : Bool) (h : Head) (shard : Shard) (f : List ℕ) → StartsWith f front.now → length f ≡ size → h.p ≡ p
+        → IfErr result (λ e. FindsCause e (closing_fault writable h shard f (closing_at (drop 32 f)))) }
+    ensures no_fault { IsErrOf result OpenError.Fault → ⊥ }
+    ensures size { IfOk result (λ c. c.size ≡ size) }
+    ensures base { IfOk result (λ c. base_of p ≤ c.size) }
 {
-    let Some(closing) = read_closing(&bytes[32..]) else {
+    let Some(closing) = read_closing(&front[32..]) else {
         return Err(OpenError::BrokenAt(32));
     };
-    if closing.size != bytes.len() as u64 || closing.size < base_of(p) {
+    if closing.size != size || closing.size < base_of(p) {
         return Err(OpenError::BrokenAt(32));
     }
     Ok(closing)
 }
 
-/// The place of the first head of a file that is not this one.
-fn head_fault(bytes: &[u8], heads: &[u64]) -> Option<u64>
-    requires { 64 + 8 * length heads.now ≤ length bytes.now }
-    ensures { (p : ℕ) (blocks : List Placed) → HeadsAre p heads.now blocks → result ≡ head_fault p blocks bytes.now (2 ^ p) 0 }
+/// The header and the closing part of the disk's file.
+fn read_front<D: Disk>(disk: &mut D, kinds: &[u8]) -> Result<Found, OpenError>
+    ensures front { IfOk result (IsFront (D.image disk.old) kinds.now) }
+    ensures fails { IfSome (D.image disk.old) (λ f. (writable : Bool) (shard : Shard) → IfErr result (λ e. TellsCause e (first_fault kinds.now writable shard f))) }
+    ensures image { D.image disk.new ≡ D.image disk.old }
+    ensures cause { HasOpenCause (D.fault_count disk.old) (D.fault_count disk.new) result }
+    ensures still { OnlyReads D.may_leave D.moment D.left_since disk.old disk.new }
 {
-    for (bucket, head) in heads.iter().enumerate() {
-        let place = 64 + 8 * bucket;
-        if u64_at(bytes, place) != *head {
-            return Some(place as u64);
-        }
+    let size = length_of(disk)?;
+    if size < 64 {
+        return Err(OpenError::NotADatabase);
     }
-    None
+    let mut front = [0; 64];
+    read_piece(disk, 0, &mut front)?;
+    let head = head_in(&front, kinds)?;
+    let closing = closing_in(&front, size, head.p)?;
+    Ok(Found { head, closing })
 }
 
 /// The closing part tells the number of records, and a next number above all.
@@ -85,7 +112,8 @@ fn check_count(
     count: usize,
     before: Option<u64>,
 ) -> Result<(), OpenError>
-    ensures { (w : Walk) → count ≡ length (records_in w.blocks) → w.least ≡ least_behind before → Finds result (count_fault writable closing.now w) }
+    ensures exact { (w : Walk) → count ≡ length (records_in w.blocks) → w.least ≡ least_behind before → Finds result (count_fault writable closing.now w) }
+    ensures no_fault { IsErrOf result OpenError.Fault → ⊥ }
 {
     let is_above = before.is_none_or(|number| number < closing.next);
     if closing.count != count as u64 || !is_above {
@@ -98,49 +126,49 @@ fn check_count(
 }
 
 /// Behind the blocks: the last group is complete, the heads are right and the closing part fits.
-fn check_end(
+fn check_end<D: Disk>(
+    alloc: Global,
+    disk: &mut D,
     walker: &mut Walker,
-    bytes: &[u8],
     closing: &Closing,
     writable: bool,
 ) -> Result<(), OpenError>
-    requires { 64 + 8 * length walker.old.heads.items ≤ length bytes.now }
-    ensures exact { (h : Head) (place : ℕ) (w : Walk) → IsAt h.p place walker.old w → Finds result (end_fault writable h closing.now bytes.now (Ends w)) }
-    ensures heads { (p place : ℕ) (w : Walk) → IsAt p place walker.old w → OnOk result (HeadsAre p walker.new.heads.items w.blocks) }
-    ensures whole { (p place : ℕ) (w : Walk) → IsAt p place walker.old w → OnOk result (w.open_group ≡ None) }
-    ensures records { walker.new.records ≡ walker.old.records }
+    requires { length walker.old.heads.items ≤ 2 ^ 24 }
+    ensures ends { (h : Head) (place : ℕ) (w : Walk) → IsAt h.p place walker.old w → OnOk result (HasHeads (D.image disk.old) h w closing.now writable) }
+    ensures fails { (h : Head) (place : ℕ) (w : Walk) → IsAt h.p place walker.old w
+        → IfSome (D.image disk.old) (λ f. 64 + 8 * length walker.old.heads.items ≤ length f → IfErr result (λ e. TellsCause e (end_fault writable h closing.now f (Ends w)))) }
+    ensures image { D.image disk.new ≡ D.image disk.old }
+    ensures cause { HasOpenCause (D.fault_count disk.old) (D.fault_count disk.new) result }
+    ensures still { OnlyReads D.may_leave D.moment D.left_since disk.old disk.new }
 {
     if let Some(first) = walker.open_group {
         return Err(OpenError::BrokenAt(first.place));
     }
     walker.settle();
-    if let Some(place) = head_fault(bytes, &walker.heads) {
-        return Err(OpenError::BrokenAt(place));
+    match head_fault(alloc, disk, &walker.heads)? {
+        Some(place) => Err(OpenError::BrokenAt(place)),
+        None => check_count(writable, closing, walker.keys.len(), walker.before),
     }
-    check_count(writable, closing, walker.records.len(), walker.before)
 }
 
-/// Checks a whole file, and answers what it holds, or what fails first.
-pub(crate) fn check_bytes(
+/// Checks the disk's file, from its front to its end, and answers what its header says, or what fails first.
+pub(crate) fn check_disk<D: Disk>(
     alloc: Global,
-    bytes: &[u8],
+    disk: &mut D,
     kinds: &[u8],
     writable: bool,
     shard: ShardOf,
 ) -> Result<Found, OpenError>
     requires shard { shard.index < shard.of }
-    ensures exact { Finds result (first_fault kinds.now writable shard bytes.now) }
-    ensures found { IfOk result (IsFound shard bytes.now) }
-    ensures closed { IfOk result (IsClosed kinds.now writable shard bytes.now) }
+    ensures exact { IfSome (D.image disk.old) (λ f. TellsResult result (first_fault kinds.now writable shard f)) }
+    ensures closed { IfOk result (λ found. IsClosedOn (D.image disk.old) kinds.now writable shard found) }
+    ensures head { IfSome (D.image disk.old) (λ f. IfOk result (λ found. static_at f ≡ Some found.head)) }
+    ensures image { D.image disk.new ≡ D.image disk.old }
+    ensures cause { HasOpenCause (D.fault_count disk.old) (D.fault_count disk.new) result }
+    ensures still { OnlyReads D.may_leave D.moment D.left_since disk.old disk.new }
 {
-    let head = head_in(bytes, kinds)?;
-    let closing = closing_in(bytes, head.p)?;
-    let mut walker = Walker::over(alloc, &head, shard, bytes)?;
-    check_end(&mut walker, bytes, &closing, writable)?;
-    Ok(Found {
-        head,
-        closing,
-        records: walker.records,
-        heads: walker.heads,
-    })
+    let found = read_front(disk, kinds)?;
+    let mut walker = walk_file(alloc, disk, &found.head, shard, found.closing.size)?;
+    check_end(alloc, disk, &mut walker, &found.closing, writable)?;
+    Ok(found)
 }

@@ -6,6 +6,8 @@ mod chains;
 mod check;
 mod fresh;
 mod hashed;
+mod heads;
+mod keys;
 mod law;
 mod log;
 mod open;
@@ -13,7 +15,9 @@ mod pieces;
 mod plan;
 mod read;
 mod restore;
+mod scan;
 mod walker;
+mod window;
 
 pub use fresh::write_fresh;
 pub use hashed::HashedRecords;
@@ -21,7 +25,7 @@ pub use law::{closed_files_open, images_restore};
 pub use log::GroupLog;
 pub use open::{check_all, open_log};
 pub use plan::{Plan, extent_of_change, plan_group};
-pub use read::{CountedLog, ReadLog, read_counted, read_log};
+pub use read::{CountedLog, read_counted};
 pub use restore::restore_groups;
 
 #[cfg(test)]

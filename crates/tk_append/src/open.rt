@@ -12,8 +12,9 @@ ghost use Rattle.tk_append.specs.LogParts.{log_disk, log_head, with_closing, ope
 ghost use Rattle.tk_append.specs.Read.{HasOpenCause, OnlyReads, TellsResult};
 ghost use Rattle.tk_append.specs.Opened.{HasOpened};
 
+use crate::check::check_disk;
 use crate::log::GroupLog;
-use crate::read::{ReadLog, check_disk, read_log};
+use crate::read::{CountedLog, read_counted};
 use std::alloc::Global;
 use tk_block::StaticHead;
 use tk_disk::{Disk, DiskError};
@@ -66,14 +67,13 @@ pub fn open_log<D: Disk>(
     ensures time { IfOk result (λ log. LeavesOnly D.moment D.left_since disk (log_disk log) (λ c. (d : List ℕ) × D.may_leave disk d × Torn 32 32 d c)) }
     ensures back_time { IfErr result (λ u. LeavesOnly D.moment D.left_since disk u.disk (λ c. (d : List ℕ) × D.may_leave disk d × Torn 32 32 d c)) }
 {
-    let read = match read_log(alloc, disk, &[1, 3], writable, shard) {
+    let read = match read_counted(alloc, disk, &[1, 3], writable, shard) {
         Ok(read) => read,
         Err(unopened) => return Err(unopened),
     };
-    let ReadLog {
+    let CountedLog {
         mut log,
-        records: _,
-        heads: _,
+        count: _,
         next: _,
     } = read;
     match begin(&mut log, writable) {

@@ -3,13 +3,14 @@ ghost use Rattle.std.specs.Str.{bytes_eq};
 ghost use Rattle.tk_model.specs.Hashes.{mix_of};
 ghost use Rattle.tk_block.specs.Blocks.{IsSmall, body_at, said, extent_of, room_of};
 ghost use Rattle.tk_block.specs.Layout.{link_of, Placed};
-ghost use Rattle.tk_append.specs.Opening.{Walk, change_in, is_home, is_in_turn, is_padded, may_stand, walked};
+ghost use Rattle.tk_append.specs.Opening.{Walk, is_home, is_in_turn, is_padded, may_stand, walked};
 ghost use Rattle.tk_append.specs.Walked.{IsAt, MayFollow, Fails, NewestIn, HasNone, HasBlock, turn_in, live_head};
 
-use crate::hashed::HashedRecords;
+use crate::keys::change_keys;
 use std::alloc::Global;
-use tk_block::{Block, StaticHead, base_of, body_at, extent_of, read_head, u64_at};
-use tk_model::{Bytes, Change, NoMemory, OpenError, Pair, ShardOf, bucket, mix, shard};
+use std::collections::HashSet;
+use tk_block::{Block, StaticHead, body_at, extent_of, read_head, u64_at};
+use tk_model::{NoMemory, OpenError, ShardOf, bucket, mix, shard};
 
 /// The first block of a group that is not complete.
 #[derive(Clone, Copy, Debug, PartialEq, Eq)]
@@ -24,7 +25,8 @@ pub(crate) struct Walker {
     /// The newest block of each bucket. One in front of the last clear counts as none.
     pub heads: Vec<u64>,
     pub cleared: u64,
-    pub records: HashedRecords,
+    /// The keys of the records that the blocks leave.
+    pub keys: HashSet<Vec<u8>>,
     /// The number of the last complete group.
     pub before: Option<u64>,
     pub open_group: Option<OpenGroup>,
@@ -107,21 +109,6 @@ pub(crate) fn is_in_turn(
     }
 }
 
-/// What the block that stands there does.
-fn change_of(alloc: Global, block: Block<'_>) -> Result<Change, NoMemory>
-    ensures { IfOk result (λ c. c ≡ change_in (said block.entry)) }
-{
-    match block.kind {
-        1 => {
-            let key = Bytes::from_slice(alloc, block.key)?;
-            let value = Bytes::from_slice(alloc, block.value)?;
-            Ok(Change::Put(Pair { key, value }))
-        }
-        2 => Ok(Change::Drop(Bytes::from_slice(alloc, block.key)?)),
-        _ => Ok(Change::Clear),
-    }
-}
-
 impl Walker {
     ghost use Rattle.std.specs.Prelude.{◌≡◌, ◌≤◌, ◌<◌, ◌^◌, ◌+◌, ℕ, List, [], ◌++◌, ◌∷◌, length, Option, option_map, if◌then◌else◌, IfOk, OnOk, IfErr};
     ghost use Rattle.tk_model.specs.Hashes.{mix_of};
@@ -130,7 +117,7 @@ impl Walker {
     ghost use Rattle.tk_block.specs.Layout.{Placed, link_of};
     ghost use Rattle.tk_append.specs.Chains.{HeadsAre};
     ghost use Rattle.tk_append.specs.Opening.{Walk, begin, may_stand, walked, opened_by};
-    ghost use Rattle.tk_append.specs.Walked.{IsAt, MayFollow, Fails, HasBlock, NewestIn, IsOfKind, Passed, WalkedAll, WalkFails, least_behind, as_open};
+    ghost use Rattle.tk_append.specs.Walked.{IsAt, MayFollow, Fails, HasBlock, NewestIn, IsOfKind, Passed, least_behind, as_open};
 
     /// Nothing is known yet.
     pub fn new(alloc: Global, p: u8) -> Result<Walker, NoMemory>
@@ -139,11 +126,11 @@ impl Walker {
     {
         let mut heads = Vec::new(alloc);
         heads.resize(1 << p, 0)?;
-        let records = HashedRecords::new(alloc, p)?;
+        let keys = HashSet::new(alloc);
         Ok(Walker {
             heads,
             cleared: 0,
-            records,
+            keys,
             before: None,
             open_group: None,
         })
@@ -216,7 +203,7 @@ impl Walker {
         requires hash { found.now.hash ≡ mix_of found.now.block.key.now }
         ensures heads { (blocks : List Placed) → NewestIn p place self.old.heads.items self.old.cleared blocks → IsOfKind (said found.now.block)
             → (next : ℕ) → place < next → NewestIn p next self.new.heads.items self.new.cleared (blocks ++ record { place = place; body = said found.now.block } ∷ []) }
-        ensures records { self.new.records ≡ self.old.records }
+        ensures keys { self.new.keys ≡ self.old.keys }
         ensures before { self.new.before ≡ self.old.before }
         ensures open_group { self.new.open_group ≡ self.old.open_group }
     {
@@ -233,7 +220,7 @@ impl Walker {
         ensures open_group { (first : Option Placed) → self.old.open_group ≡ option_map as_open first → self.new.open_group ≡ option_map as_open (opened_by first (record { place = place; body = said block.entry })) }
         ensures heads { self.new.heads.items ≡ self.old.heads.items }
         ensures cleared { self.new.cleared ≡ self.old.cleared }
-        ensures records { self.new.records ≡ self.old.records }
+        ensures keys { self.new.keys ≡ self.old.keys }
     {
         if block.last {
             self.before = Some(block.number);
@@ -260,14 +247,14 @@ impl Walker {
         ensures walked { (w : Walk) (next : ℕ) → IsAt p place self.old w → IsOfKind (said found.now.block) → place < next
             → OnOk result (IsAt p next self.new (walked w (record { place = place; body = said found.now.block }))) }
     {
-        self.records.apply(change_of(alloc, found.block)?)?;
+        change_keys(alloc, &mut self.keys, found.block)?;
         self.turn_heads(p, place, found);
         self.turn_group(place, found.block);
         Ok(())
     }
 
     /// Passes the block at the front of bytes that lie at a place, and answers its extent.
-    fn step(
+    pub fn step(
         &mut self,
         alloc: Global,
         head: &StaticHead,
@@ -287,33 +274,11 @@ impl Walker {
         Ok(found.extent)
     }
 
-    /// What is known behind all blocks of a file.
-    pub fn over(
-        alloc: Global,
-        head: &StaticHead,
-        shard: ShardOf,
-        bytes: &[u8],
-    ) -> Result<Walker, OpenError>
-        requires p { head.now.p ≤ 24 }
-        requires shard { shard.index < shard.of }
-        requires long { base_of head.now.p ≤ length bytes.now }
-        ensures walked { IfOk result (WalkedAll head.now shard bytes.now) }
-        ensures fails { IfErr result (WalkFails head.now shard bytes.now) }
-    {
-        let mut walker = Walker::new(alloc, head.p)?;
-        let mut place = base_of(head.p) as usize;
-        while place < bytes.len() {
-            let extent = walker.step(alloc, head, shard, place as u64, &bytes[place..])?;
-            place += extent as usize;
-        }
-        Ok(walker)
-    }
-
     /// Makes 0 of the heads in front of the last clear.
     pub fn settle(&mut self)
         ensures heads { (p place : ℕ) (blocks : List Placed) → NewestIn p place self.old.heads.items self.old.cleared blocks → HeadsAre p self.new.heads.items blocks }
         ensures same { length self.new.heads.items ≡ length self.old.heads.items }
-        ensures records { self.new.records ≡ self.old.records }
+        ensures keys { self.new.keys ≡ self.old.keys }
         ensures before { self.new.before ≡ self.old.before }
         ensures open_group { self.new.open_group ≡ self.old.open_group }
     {
