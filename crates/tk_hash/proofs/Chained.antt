@@ -1,18 +1,15 @@
 -- The blocks of a bucket stand in the file, linked from its head.
 use Rattle.std.proofs.Common.{◌≡◌, ℕ, ◌+◌, ◌*◌, ◌<◌, ◌≤◌, ◌^◌, Bool, true, false, cond, eqb, List, [], ◌∷◌, ◌++◌, length, drop, refl, sym, ◌∙◌, ap, subst, arith, append_assoc, length-append}
-use Rattle.std.specs.Prelude.{◌==◌, ◌&&◌, ◌||◌}
+use Rattle.std.specs.Prelude.{◌&&◌, ◌||◌}
 use Rattle.std.proofs.lemmas.Bool.{eqb-true}
 use Rattle.std.proofs.lemmas.List.{append-nil, drop_at, drop-drop}
-use Rattle.tk_model.specs.Records.{AllFit}
 use Rattle.tk_model.specs.declared.record.Change.{Change}
 use Rattle.tk_model.specs.declared.record.Group.{Group}
 use Rattle.tk_block.specs.declared.block.Body.{Body}
-use Rattle.tk_block.specs.declared.closing.Closing.{Closing}
 use Rattle.tk_block.specs.declared.head.StaticHead.{StaticHead}
 use Rattle.tk_block.specs.Number.{u64_in}
 use Rattle.tk_block.specs.Text.{static_text, closing_text, base_of}
-use Rattle.tk_block.specs.Blocks.{AllSmall, body_of, block_text, extent_of, group_bodies, is_nil}
-use Rattle.tk_block.specs.Grammar.{FitsBody}
+use Rattle.tk_block.specs.Blocks.{AllSmall, block_text, extent_of, group_bodies, is_nil}
 use Rattle.tk_block.specs.Layout.{Placed, bucket_in, is_in, laid, newest, link_of, links_of, texts, end_of, bodies_of, heads_text}
 use Rattle.tk_block.proofs.BlockReads.{change_fits}
 use Rattle.tk_block.proofs.Grammar.{length-static_text, length-closing_text}
@@ -98,9 +95,10 @@ file_parts h f groups is =
     let rest = groups_text h groups in
     let long : length (front ++ heads) ≡ base_of h.p =
     omega (arith, length-append front heads, length-append (static_text h) (closing_text is.closing), length-static_text h, length-closing_text is.closing, length-heads_text h.p (blocks_of h groups)) in
-    let parted : f ≡ (front ++ heads) ++ rest = is.text ∙ sym (append_assoc front heads rest) in
-    (ap (λ (l : List ℕ). drop (base_of h.p) l) parted ∙ drop_at (front ++ heads) rest (base_of h.p) long,
-    omega (arith, ap length parted, length-append (front ++ heads) rest, long, length-texts (base_of h.p) (bodies_of groups) (links_of h.p [] (blocks_of h groups))))
+    let parted : f ≡ (front ++ heads) ++ rest = is.text ∙ sym (append_assoc front heads rest) in (
+      ap (λ (l : List ℕ). drop (base_of h.p) l) parted ∙ drop_at (front ++ heads) rest (base_of h.p) long,
+      omega (arith, ap length parted, length-append (front ++ heads) rest, long, length-texts (base_of h.p) (bodies_of groups) (links_of h.p [] (blocks_of h groups))),
+    )
 
 -- the chain of a bucket is linked from its head
 pub file_chained : (h : StaticHead) (f : List ℕ) (groups : List Group) (bucket : ℕ) → bucket < 2 ^ h.p → IsFile h f groups → IsChained f (u64_in f (64 + 8 * bucket)) (chain_of h bucket groups)

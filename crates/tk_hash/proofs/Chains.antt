@@ -1,6 +1,6 @@
 -- The first block of a key in its bucket's chain decides what the records have at the key.
-use Rattle.std.proofs.Common.{◌≡◌, ℕ, ◌+◌, Bool, true, false, cond, List, [], ◌∷◌, ◌++◌, refl, sym, ◌∙◌, ap, subst}
-use Rattle.std.specs.Prelude.{◌==◌, Option, Some, None, if◌then◌else◌}
+use Rattle.std.proofs.Common.{◌≡◌, ℕ, ◌+◌, Bool, true, false, cond, List, [], ◌∷◌, ◌++◌, refl, sym, ◌∙◌, ap}
+use Rattle.std.specs.Prelude.{◌==◌, if◌then◌else◌}
 use Rattle.std.proofs.lemmas.Bool.{eq-eqb}
 use Rattle.tk_model.specs.Orders.{same_bytes}
 use Rattle.tk_model.specs.Records.{find, after, after_one, replay, Rising}
@@ -11,7 +11,6 @@ use Rattle.tk_model.specs.declared.record.Change.{Change}
 use Rattle.tk_model.specs.declared.record.Change.TheVariants.{Put, Drop, Clear}
 use Rattle.tk_model.proofs.KeyOrders.{same_told, same_itself}
 use Rattle.tk_model.proofs.RecordLaws.{one_rising, after_rising, find_put_same, find_put_other, find_without_same, find_without_other}
-use Rattle.tk_block.specs.declared.block.Body.{Body}
 use Rattle.tk_block.specs.declared.head.StaticHead.{StaticHead}
 use Rattle.tk_block.specs.Text.{base_of}
 use Rattle.tk_block.specs.Blocks.{body_of, extent_of, group_bodies, is_nil}

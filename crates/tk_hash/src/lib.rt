@@ -1,6 +1,7 @@
 //! Hash files as stores.
 #![tactic(auto)]
 
+mod block;
 mod open;
 mod plan;
 mod reading;
