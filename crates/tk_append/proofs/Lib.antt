@@ -15,8 +15,6 @@ pub mod Layouts
 pub mod LogSteps
 pub mod NewestHeads
 pub mod PiecesSteps
-pub mod PlanLoop
-pub mod PlanSteps
 pub mod Readings
 pub mod Reopened
 pub mod Rereading

@@ -4,6 +4,7 @@
 mod blocks;
 mod chains;
 mod check;
+mod extent;
 mod fresh;
 mod hashed;
 mod heads;
@@ -12,7 +13,6 @@ mod law;
 mod log;
 mod open;
 mod pieces;
-mod plan;
 mod read;
 mod restore;
 mod scan;
@@ -24,7 +24,7 @@ pub use hashed::HashedRecords;
 pub use law::{closed_files_open, images_restore};
 pub use log::GroupLog;
 pub use open::{check_all, open_log};
-pub use plan::{Plan, extent_of_change, plan_group};
+pub use extent::extent_of_change;
 pub use read::{CountedLog, read_counted};
 pub use restore::restore_groups;
 

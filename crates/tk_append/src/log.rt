@@ -1,6 +1,5 @@
 ghost use Rattle.std.specs.Prelude.{◌≡◌, ◌⊎◌, ◌+◌, ◌*◌, ◌<◌, ◌≤◌, ◌++◌, ◌∷◌, ◌^◌, [], ℕ, List, length, true, IfSome, OnOk, Some};
 ghost use Rattle.std.specs.Option.{is_some, option_map};
-ghost use Rattle.std.specs.Int.{w64, to_be_bytes};
 ghost use Rattle.std.specs.Borrow.{Lends, sem};
 ghost use Rattle.tk_disk.specs.Crash.{Torn, Follows, Within, Only, LeavesOnly};
 ghost use Rattle.tk_disk.specs.Disk.{put_at, HasCause};
@@ -207,24 +206,6 @@ impl<D: Disk> GroupLog<D> {
         self.sync_log(true)
     }
 
-    /// Writes the place of a bucket's newest block.
-    pub fn set_head(&mut self, bucket: u64, place: u64) -> Result<(), DiskError>
-        requires p { (log_head self.old).p ≤ 24 }
-        requires bucket { bucket < 2 ^ (log_head self.old).p }
-        requires there { IfSome (D.image (log_disk self.old)) (λ f. base_of (log_head self.old).p ≤ length f) }
-        ensures written { OnOk result (D.image (log_disk self.new) ≡ option_map (put_at (64 + 8 * bucket) (to_be_bytes w64 place)) (D.image (log_disk self.old))) }
-        ensures stands { (groups : List Group) → Stands D.image self.old groups → OnOk result (Stands D.image self.new groups) }
-        ensures head { log_head self.new ≡ log_head self.old }
-        ensures end { log_end self.new ≡ log_end self.old }
-        ensures told { is_some (D.image (log_disk self.new)) ≡ is_some (D.image (log_disk self.old)) }
-        ensures taken { D.taken_count (log_disk self.new) ≡ D.taken_count (log_disk self.old) }
-        ensures cause { HasCause (D.fault_count (log_disk self.old)) (D.fault_count (log_disk self.new)) result }
-        ensures crash { Follows (Torn (64 + 8 * bucket) 8) (D.may_leave (log_disk self.old)) (D.may_leave (log_disk self.new)) }
-        ensures time { LeavesOnly D.moment D.left_since (log_disk self.old) (log_disk self.new) (λ c. (d : List ℕ) × D.may_leave (log_disk self.old) d × Torn (64 + 8 * bucket) 8 d c) }
-    {
-        self.disk.write_at(64 + 8 * bucket, &place.to_be_bytes())
-    }
-
     /// Writes the cells of heads from a bucket's on.
     pub fn set_cells(&mut self, bucket: u64, text: &[u8]) -> Result<(), DiskError>
         requires p { (log_head self.old).p ≤ 24 }
@@ -241,20 +222,5 @@ impl<D: Disk> GroupLog<D> {
         ensures time { LeavesOnly D.moment D.left_since (log_disk self.old) (log_disk self.new) (λ c. (d : List ℕ) × D.may_leave (log_disk self.old) d × Torn (64 + 8 * bucket) (length text.now) d c) }
     {
         self.disk.write_at(64 + 8 * bucket, text)
-    }
-
-    /// Writes the newest block's place of each bucket.
-    pub fn set_heads(&mut self, text: &[u8]) -> Result<(), DiskError>
-        requires p { (log_head self.old).p ≤ 24 }
-        requires text { 64 + length text.now ≡ base_of (log_head self.old).p }
-        requires there { IfSome (D.image (log_disk self.old)) (λ f. base_of (log_head self.old).p ≤ length f) }
-        ensures written { OnOk result (D.image (log_disk self.new) ≡ option_map (put_at 64 text.now) (D.image (log_disk self.old))) }
-        ensures head { log_head self.new ≡ log_head self.old }
-        ensures end { log_end self.new ≡ log_end self.old }
-        ensures told { is_some (D.image (log_disk self.new)) ≡ is_some (D.image (log_disk self.old)) }
-        ensures taken { D.taken_count (log_disk self.new) ≡ D.taken_count (log_disk self.old) }
-        ensures cause { HasCause (D.fault_count (log_disk self.old)) (D.fault_count (log_disk self.new)) result }
-    {
-        self.disk.write_at(64, text)
     }
 }

@@ -24,8 +24,8 @@ use Rattle.tk_append.specs.Chains.{HeadsAre, HasKey}
 use Rattle.tk_append.specs.Log.{blocks_of}
 use Rattle.tk_append.specs.FileText.{IsFile}
 use Rattle.tk_append.specs.Restored.{groups_text}
-use Rattle.tk_append.proofs.PlanSteps as steps
-use Rattle.tk_append.proofs.PlanLoop.{Ahead, ahead_more}
+use Rattle.tk_hash.proofs.PlanSteps as steps
+use Rattle.tk_hash.proofs.PlanLoop.{Ahead, ahead_more}
 use Rattle.tk_append.proofs.Reopened.{head_read, newest_laid}
 use Rattle.tk_hash.specs.declared.plan.NewHead.{NewHead}
 use Rattle.tk_hash.specs.declared.plan.NewHeads.{NewHeads}

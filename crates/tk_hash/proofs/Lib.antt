@@ -18,6 +18,8 @@ pub mod InOrder
 pub mod Keeping
 pub mod Looks
 pub mod Once
+pub mod PlanLoop
+pub mod PlanSteps
 pub mod ReadSteps
 pub mod Searches
 pub mod Seen

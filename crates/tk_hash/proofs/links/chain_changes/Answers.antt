@@ -8,7 +8,7 @@ use Rattle.tk_block.specs.Blocks.{group_bodies, is_nil}
 use Rattle.tk_block.specs.Layout.{bucket_in}
 use Rattle.tk_block.proofs.Groups.{end_behind}
 use Rattle.tk_append.specs.Log.{blocks_of}
-use Rattle.tk_append.proofs.PlanLoop.{Ahead, all_ahead_heads, all_ahead_links, fit_rest}
+use Rattle.tk_hash.proofs.PlanLoop.{Ahead, all_ahead_heads, all_ahead_links, fit_rest}
 use Rattle.tk_hash.specs.declared.plan.NewHead.{NewHead}
 use Rattle.tk_hash.specs.Plan.{with_new, AllBelow, placed_in, IsNewest}
 use Rattle.tk_hash.proofs.HeadTexts.{if_some, if_both}

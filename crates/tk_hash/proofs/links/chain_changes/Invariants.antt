@@ -8,7 +8,7 @@ use Rattle.tk_append.specs.Chains.{HeadsAre}
 use Rattle.tk_append.specs.Log.{blocks_of}
 use Rattle.tk_append.specs.FileText.{IsFile}
 use Rattle.tk_append.specs.Read.{OnlyReads}
-use Rattle.tk_append.proofs.PlanLoop.{Ahead}
+use Rattle.tk_hash.proofs.PlanLoop.{Ahead}
 use Rattle.tk_hash.specs.Plan.{with_new, AllBelow, IsNewest}
 use Rattle.tk_hash.proofs.links.chain_changes.Given as goal
 
