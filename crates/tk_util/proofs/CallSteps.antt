@@ -27,6 +27,8 @@ use Rattle.tk_append.specs.Opening.{first_fault}
 use Rattle.tk_hash.specs.declared.store.HashStore.{HashStore}
 use Rattle.tk_util.specs.declared.call.Stop.{Stop}
 use Rattle.tk_util.specs.declared.call.Stop.TheVariants.{Full}
+use Rattle.tk_append.specs.Restored.{groups_in}
+use Rattle.tk_hash.specs.HashLaws.{hash_replays}
 use Rattle.tk_hash.specs.Hash.{HashStands, opening, groups_held, map_in, hash_disk, hash_head, hash_nature, hash_shown}
 use Rattle.tk_util.specs.Calls.{alone, Made, MadeOn, NoRoom, NoRoomOn, passes}
 
@@ -69,9 +71,13 @@ file_kept true g h groups n next closes b c d =
     ap (λ (l : List Group). closed_text g l closes) (append-nil groups) ∙ (ap (λ (k : ℕ). closed_text g groups k) d ∙ same_closed g h groups next b)
 file_kept false g h groups n next closes b c d = ap (λ (k : ℕ). closed_text g groups k) c ∙ same_closed g h groups next b
 
+map_told : {A B : Type 0} (o : Option A) (g : A → B) (y : B) → IfSome (option_map g o) (λ m. m ≡ y) → IfSome o (λ f. option_map g o ≡ Some y)
+map_told None g y is = tt
+map_told (Some f) g y is = ap Some is
+
 -- the records of a store that was opened
 map_is : {D : Type 0} (image : D → Option (List ℕ)) (may_leave : D → List ℕ → Type 0) (s : HashStore D) (groups : List Group) → HashStands image may_leave s (opening groups) [] 0 → IfSome (image (hash_disk s)) (λ f. map_in image s ≡ Some (replay Hash groups []))
-map_is image may_leave s groups st = ?
+map_is image may_leave s groups st = map_told (image (hash_disk s)) (λ f. replay Hash (groups_in (hash_head s) f) []) (replay Hash groups []) (hash_replays image may_leave s (opening groups) [] 0 st)
 
 -- what is known of the records, where a disk tells them
 told_map : (o : Option (List ℕ)) (M : Option (List Pair)) (m : List Pair) (P : List Pair → Type 0) (R : Type 0) → IfSome o (λ f. M ≡ Some m) → IfSome M P → (P m → R) → IfSome o (λ f. R)
