@@ -19,12 +19,12 @@ mod scan;
 mod walker;
 mod window;
 
+pub use extent::extent_of_change;
 pub use fresh::write_fresh;
 pub use hashed::HashedRecords;
 pub use law::{closed_files_open, images_restore};
 pub use log::GroupLog;
 pub use open::{check_all, open_log};
-pub use extent::extent_of_change;
 pub use read::{CountedLog, read_counted};
 pub use restore::restore_groups;
 
