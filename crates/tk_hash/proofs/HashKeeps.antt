@@ -198,9 +198,9 @@ module _ {D : Type 0} (image : D → Option (List ℕ)) (may_leave : D → List 
         let st = stood.stands in
         let h : StaticHead = log_head s.log in
         let kept : t.writable ≡ true → IfSome (image (log_disk t.log)) (λ f. (c : List ℕ) → left_since (log_disk t.log) since_when c → IsKept h (groups_held first.held ++ take n since) c) = λ may.
-            let can : s.writable ≡ true = sym writable ∙ may in
-            carried_both (image (log_disk s.log)) (image (log_disk t.log)) told (stood.safe.kept can) (kept_held image may_leave s first since hard st can)
-            (λ past kept c left. elim (keeps.since kept since_when c stood.before left) [ inl was ↦ past c was | inr is ↦ kept_front h (groups_held first.held) since n hard c stood.least st.synced is ]) in
+        let can : s.writable ≡ true = sym writable ∙ may in
+        carried_both (image (log_disk s.log)) (image (log_disk t.log)) told (stood.safe.kept can) (kept_held image may_leave s first since hard st can)
+        (λ past kept c left. elim (keeps.since kept since_when c stood.before left) [ inl was ↦ past c was | inr is ↦ kept_front h (groups_held first.held) since n hard c stood.least st.synced is ]) in
         record {
           within = stood.safe.within;
           each = λ may. rw head (kept_each (image (log_disk t.log)) (left_since (log_disk t.log) since_when) h (groups_held first.held) since n st.header st.generation stood.safe.within (kept may));

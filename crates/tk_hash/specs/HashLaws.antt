@@ -156,7 +156,7 @@ module _ {D : Type 0} (image : D → Option (List ℕ)) where
           → HashStood image may_leave moment left_since s (moment (log_disk s.log)) hard first since hard
       hash_stood_now only s first since hard st =
           let kept : s.writable ≡ true → IfSome (image (log_disk s.log)) (λ f. (c : List ℕ) → left_since (log_disk s.log) (moment (log_disk s.log)) c → IsKept (log_head s.log) (groups_held first.held ++ take hard since) c) = λ may.
-              IfSome_then (image (log_disk s.log)) (kept_held s first since hard st may) (λ f kept c left. kept c (only (log_disk s.log) c left)) in
+          IfSome_then (image (log_disk s.log)) (kept_held s first since hard st may) (λ f kept c left. kept c (only (log_disk s.log) c left)) in
           record {
             stands = st;
             safe = record {
