@@ -58,6 +58,13 @@ still_some : (o : Option (List ℕ)) (g : List ℕ → List ℕ) → is_some (op
 still_some None g = refl
 still_some (Some f) g = refl
 
+-- what is made of what a disk tells is told as the disk is
+pub mapped_still : {A B C : Type 0} (f : A → B) (g : A → C) (o new : Option A) → is_some new ≡ is_some o → is_some (option_map f new) ≡ is_some (option_map g o)
+mapped_still f g None None told = told
+mapped_still f g None (Some y) told = told
+mapped_still f g (Some x) None told = told
+mapped_still f g (Some x) (Some y) told = told
+
 -- what a sync leaves
 pub only_kept : (o : Option (List ℕ)) (h : StaticHead) (groups : List Group) (may : List ℕ → Type 0) → IfSome o (λ f. IsFile h f groups) → IfSome o (λ f. Only f may) → IfSome o (λ f. (c : List ℕ) → may c → IsKept h groups c)
 only_kept None h groups may file only = tt
@@ -192,7 +199,7 @@ module _ {D : Type 0} (image : D → Option (List ℕ)) (may_leave : D → List 
       → HashStood image may_leave moment left_since (record s { staged = o; closed = b }) since_when n first since hard
   stood_staged moment left_since s o b since_when n first since hard st = record {
     stands = restaged s first since hard st.stands o b;
-    safe = record { within = st.safe.within; each = st.safe.each };
+    safe = record { within = st.safe.within; each = st.safe.each; kept = st.safe.kept };
     least = st.least;
     before = st.before;
   }

@@ -20,11 +20,11 @@ use Rattle.tk_append.specs.Log.{AreGroups}
 use Rattle.tk_append.specs.LogParts.{log_disk, log_head, log_end}
 use Rattle.tk_append.specs.FileText.{IsFile}
 use Rattle.tk_append.specs.Read.{OnlyReads}
-use Rattle.tk_append.specs.Restored.{groups_in, IsKept, IsUntorn}
+use Rattle.tk_append.specs.Restored.{groups_in, IsKept}
 use Rattle.tk_append.proofs.Restoring.{reads_back}
 use Rattle.tk_hash.specs.Seek.{IsShelf}
-use Rattle.tk_hash.specs.Hash.{groups_held, floor_of, RestoresTo, KeepsGroups, map_in, HashStands, HashSafe, HashStood}
-use Rattle.tk_hash.specs.HashLaws.{mapped, is_file, kept_held, records_are, front_more, weaker, hash_safe_less}
+use Rattle.tk_hash.specs.Hash.{groups_held, floor_of, KeepsGroups, map_in, HashStands, HashSafe, HashStood}
+use Rattle.tk_hash.specs.HashLaws.{mapped, is_file, kept_held, records_are, kept_front, kept_each, hash_safe_less}
 use Rattle.tk_hash.specs.declared.store.HashStore.{HashStore}
 use Rattle.tk_hash.specs.declared.shelf.Shelf.{Shelf}
 use Rattle.tk_hash.proofs.Keeping.{keeps_read}
@@ -197,18 +197,14 @@ module _ {D : Type 0} (image : D → Option (List ℕ)) (may_leave : D → List 
     safe_on s t since_when n first since hard stood head writable told keeps =
         let st = stood.stands in
         let h : StaticHead = log_head s.log in
-        let all : List Group → List Group = λ more. groups_held first.held ++ (since ++ more) in
+        let kept : t.writable ≡ true → IfSome (image (log_disk t.log)) (λ f. (c : List ℕ) → left_since (log_disk t.log) since_when c → IsKept h (groups_held first.held ++ take n since) c) = λ may.
+        let can : s.writable ≡ true = sym writable ∙ may in
+        carried_both (image (log_disk s.log)) (image (log_disk t.log)) told (stood.safe.kept can) (kept_held image may_leave s first since hard st can)
+        (λ past kept c left. elim (keeps.since kept since_when c stood.before left) [ inl was ↦ past c was | inr is ↦ kept_front h (groups_held first.held) since n hard c stood.least st.synced is ]) in
         record {
           within = stood.safe.within;
-          each = λ may.
-              let can : s.writable ≡ true = sym writable ∙ may in
-              carried_both (image (log_disk s.log)) (image (log_disk t.log)) told (stood.safe.each can) (kept_held image may_leave s first since hard st can)
-              (λ each kept c more left legal untorn.
-              let whole : IsUntorn h (all more) c = subst (λ (x : StaticHead). IsUntorn x (all more) c) head untorn in
-              elim (keeps.since kept since_when c stood.before left) [
-                | inl past ↦ each c more past legal whole
-                | inr is ↦ weaker (groups_held first.held) (since ++ more) n hard c stood.least (front_more h (groups_held first.held) since more hard c st.header st.generation st.synced is legal whole)
-              ]);
+          each = λ may. rw head (kept_each (image (log_disk t.log)) (left_since (log_disk t.log) since_when) h (groups_held first.held) since n st.header st.generation stood.safe.within (kept may));
+          kept = λ may. rw head (kept may);
         }
 
     -- what stood does so on, where what it stands for now is known

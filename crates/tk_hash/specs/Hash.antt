@@ -143,6 +143,8 @@ module _ {D : Type 0} where
     pub each : s.writable ≡ true → IfSome (image (log_disk s.log)) (λ f. (c : List ℕ) (more : List Group) → left_since (log_disk s.log) t c
         → AreGroups 0 (2 ^ 64) (groups_held first.held ++ (since ++ more)) → IsUntorn (log_head s.log) (groups_held first.held ++ (since ++ more)) c
         → RestoresTo (groups_held first.held) (since ++ more) n c)
+    -- each image since the time, untorn or not, has the header and the blocks of the groups of the opening and of the first n since
+    pub kept : s.writable ≡ true → IfSome (image (log_disk s.log)) (λ f. (c : List ℕ) → left_since (log_disk s.log) t c → IsKept (log_head s.log) (groups_held first.held ++ take n since) c)
 
   pub record HashStood (image : D → Option (List ℕ)) (may_leave : D → List ℕ → Type 0) (moment : D → ℕ) (left_since : D → ℕ → List ℕ → Type 0) (s : HashStore D) (t n : ℕ) (first : First) (since : List Group) (hard : ℕ) : Type 0 where
     pub stands : HashStands image may_leave s first since hard

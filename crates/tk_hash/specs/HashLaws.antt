@@ -1,5 +1,5 @@
 -- The laws of hash files as stores.
-use Rattle.std.proofs.Common.{◌≡◌, ◌⊎◌, inl, inr, ℕ, ◌+◌, ◌<◌, ◌≤◌, ◌^◌, List, [], ◌∷◌, ◌++◌, length, take, drop, true, refl, sym, ◌∙◌, ap, subst, arith, length-append, length-take, length-drop, append_assoc}
+use Rattle.std.proofs.Common.{◌≡◌, ◌⊎◌, inl, inr, ℕ, ◌+◌, ◌-◌, ◌<◌, ◌≤◌, ◌^◌, List, [], ◌∷◌, ◌++◌, length, take, drop, true, refl, sym, ◌∙◌, ap, subst, arith, length-append, length-take, length-drop, append_assoc}
 use Rattle.std.specs.Prelude.{Option, Some, None, IfSome}
 use Rattle.std.specs.Option.{option_map}
 use Rattle.std.proofs.lemmas.List.{take-append-drop, take-append-le, append-nil}
@@ -25,7 +25,7 @@ use Rattle.tk_append.specs.LogParts.{log_disk, log_head, log_end}
 use Rattle.tk_append.specs.FileText.{text_of, IsFile}
 use Rattle.tk_append.specs.Restored.{groups_in, groups_text, IsUntorn, IsKept}
 use Rattle.tk_append.proofs.Groupings.{groups_upto}
-use Rattle.tk_append.proofs.Restoring.{reads_back, restores}
+use Rattle.tk_append.proofs.Restoring.{reads_back, restores, kept_less}
 use Rattle.tk_hash.specs.declared.store.HashStore.{HashStore}
 use Rattle.tk_hash.specs.Hash.{groups_held, floor_of, RestoresTo, hash_nature, hash_shown, map_in, HashStands, HashSafe, HashStood}
 
@@ -98,6 +98,25 @@ front_more h first since more n c header generation le kept legal untorn =
     front_of h first (since ++ more) n c header generation (omega (arith, le, length-append since more)) legal
     (subst (λ (l : List Group). IsKept h (first ++ l) c) (sym (take-append-le n since more le)) kept) untorn
 
+-- what kept so many groups kept fewer of them
+pub kept_front : (h : StaticHead) (first since : List Group) (m n : ℕ) (c : List ℕ) → m ≤ n → n ≤ length since → IsKept h (first ++ take n since) c → IsKept h (first ++ take m since) c
+kept_front h first since m n c le within kept =
+    let rest : List Group = take (n - m) (drop m since) in
+    let sum : n ≡ m + (n - m) = omega (arith, le) in
+    let front : take n since ≡ take m since ++ rest = ap (λ (k : ℕ). take k since) sum ∙ sym (take_both m (n - m) since (omega (arith, le, within))) in
+    kept_less h (first ++ take m since) rest c (subst (λ (l : List Group). IsKept h l c) (ap (λ (l : List Group). first ++ l) front ∙ sym (append_assoc first (take m since) rest)) kept)
+
+-- the same with more behind them
+less_kept : (o : Option (List ℕ)) (left : List ℕ → Type 0) (h : StaticHead) (first since more : List Group) (m n : ℕ) → m ≤ n → n ≤ length since → IfSome o (λ f. (c : List ℕ) → left c → IsKept h (first ++ take n since) c)
+    → IfSome o (λ f. (c : List ℕ) → left c → IsKept h (first ++ take m (since ++ more)) c)
+less_kept o left h first since more m n le within kept = IfSome_then o kept (λ f kept c l.
+    subst (λ (gs : List Group). IsKept h (first ++ gs) c) (sym (take-append-le m since more (omega (arith, le, within)))) (kept_front h first since m n c le within (kept c l)))
+
+-- images that kept the groups restore to them, where they are untorn
+pub kept_each : (o : Option (List ℕ)) (left : List ℕ → Type 0) (h : StaticHead) (first since : List Group) (n : ℕ) → is_static h ≡ true → h.generation < 2 ^ 64 → n ≤ length since → IfSome o (λ f. (c : List ℕ) → left c → IsKept h (first ++ take n since) c)
+    → IfSome o (λ f. (c : List ℕ) (more : List Group) → left c → AreGroups 0 (2 ^ 64) (first ++ (since ++ more)) → IsUntorn h (first ++ (since ++ more)) c → RestoresTo first (since ++ more) n c)
+kept_each o left h first since n header generation within kept = IfSome_then o kept (λ f kept c more l legal untorn. front_more h first since more n c header generation within (kept c l) legal untorn)
+
 less_each : (o : Option (List ℕ)) (left : List ℕ → Type 0) (h : StaticHead) (first since more : List Group) (m n : ℕ) → m ≤ n
     → IfSome o (λ f. (c : List ℕ) (more : List Group) → left c → AreGroups 0 (2 ^ 64) (first ++ (since ++ more)) → IsUntorn h (first ++ (since ++ more)) c → RestoresTo first (since ++ more) n c)
     → IfSome o (λ f. (c : List ℕ) (rest : List Group) → left c → AreGroups 0 (2 ^ 64) (first ++ ((since ++ more) ++ rest)) → IsUntorn h (first ++ ((since ++ more) ++ rest)) c → RestoresTo first ((since ++ more) ++ rest) m c)
@@ -135,22 +154,26 @@ module _ {D : Type 0} (image : D → Option (List ℕ)) where
     module _ (moment : D → ℕ) (left_since : D → ℕ → List ℕ → Type 0) where
       pub hash_stood_now : ((d : D) (c : List ℕ) → left_since d (moment d) c → may_leave d c) → (s : HashStore D) (first : First) (since : List Group) (hard : ℕ) → HashStands image may_leave s first since hard
           → HashStood image may_leave moment left_since s (moment (log_disk s.log)) hard first since hard
-      hash_stood_now only s first since hard st = record {
-        stands = st;
-        safe = record {
-          within = st.synced;
-          each = λ may. IfSome_then (image (log_disk s.log)) (kept_held s first since hard st may)
-              (λ f kept c more left legal untorn. front_more (log_head s.log) (groups_held first.held) since more hard c st.header st.generation st.synced (kept c (only (log_disk s.log) c left)) legal untorn);
-        };
-        least = omega arith;
-        before = omega arith;
-      }
+      hash_stood_now only s first since hard st =
+          let kept : s.writable ≡ true → IfSome (image (log_disk s.log)) (λ f. (c : List ℕ) → left_since (log_disk s.log) (moment (log_disk s.log)) c → IsKept (log_head s.log) (groups_held first.held ++ take hard since) c) = λ may.
+          IfSome_then (image (log_disk s.log)) (kept_held s first since hard st may) (λ f kept c left. kept c (only (log_disk s.log) c left)) in
+          record {
+            stands = st;
+            safe = record {
+              within = st.synced;
+              each = λ may. kept_each (image (log_disk s.log)) (left_since (log_disk s.log) (moment (log_disk s.log))) (log_head s.log) (groups_held first.held) since hard st.header st.generation st.synced (kept may);
+              kept = kept;
+            };
+            least = omega arith;
+            before = omega arith;
+          }
 
   module _ (left_since : D → ℕ → List ℕ → Type 0) where
     pub hash_safe_less : (s : HashStore D) (t : ℕ) (first : First) (since more : List Group) (m n : ℕ) → m ≤ n → HashSafe image left_since s t first since n → HashSafe image left_since s t first (since ++ more) m
     hash_safe_less s t first since more m n le safe = record {
       within = omega (arith, le, safe.within, length-append since more);
       each = λ may. less_each (image (log_disk s.log)) (left_since (log_disk s.log) t) (log_head s.log) (groups_held first.held) since more m n le (safe.each may);
+      kept = λ may. less_kept (image (log_disk s.log)) (left_since (log_disk s.log) t) (log_head s.log) (groups_held first.held) since more m n le safe.within (safe.kept may);
     }
 
     pub hash_same_safe : (s : HashStore D) (t : ℕ) (first : First) (since : List Group) (m n : ℕ) → m ≤ n → HashSafe image left_since s t first since n → HashSafe image left_since s t first since m

@@ -1,5 +1,5 @@
 ghost use Rattle.std.specs.Prelude.{◌≡◌, ◌≤◌, ◌+◌, ◌++◌, ◌⊎◌, [], List, ℕ, Option, Some, None, true, false, length, IfSome, IfOk, OnOk, OnErr, sum_by, max};
-ghost use Rattle.std.specs.Option.{option_map, option_copied};
+ghost use Rattle.std.specs.Option.{is_some, option_map, option_copied};
 ghost use Rattle.tk_model.specs.declared.record.Action.TheVariants.{Keep};
 ghost use Rattle.tk_model.specs.declared.record.Group.{Group};
 ghost use Rattle.tk_model.specs.Records.{find, after, AllFit, IsClearAlone};
@@ -79,6 +79,7 @@ fn put_changes<S: SeqStore>(
     ensures since { (t n : ℕ) (first : First) (since : List Group) (hard : ℕ) → S.stood store.old t n first since hard
         → OnOk result (S.stood store.new t n first (since ++ group_of number changes.now) hard) }
     ensures safe { LeavesSafe S.stood S.safe (group_of number changes.now) store.old store.new }
+    ensures told { is_some (S.shown store.new).map ≡ is_some (S.shown store.old).map }
     ensures full { TellsFullOfChanges (S.nature store.old) (S.shown store.old) changes.now result }
     ensures whole { UnlessFault result (IsWhole S.stands store.new) }
     ensures refused { OnErr result (UnlessFault result (Keeps S.stands store.old store.new × KeepsSince S.stood store.old store.new × SameContents (S.shown store.old) (S.shown store.new))) }
@@ -121,6 +122,7 @@ pub fn run_on<S: SeqStore, P: RecordProcessor>(
     ensures since { IfSome (S.shown store.old).map (λ m. (t n : ℕ) (first : First) (since : List Group) (hard : ℕ) → S.stood store.old t n first since hard
         → OnOk result (S.stood store.new t n first (since ++ group_of number (call_changes P.acts p.old key.now m)) hard)) }
     ensures safe { IfSome (S.shown store.old).map (λ m. LeavesSafe S.stood S.safe (group_of number (call_changes P.acts p.old key.now m)) store.old store.new) }
+    ensures told { is_some (S.shown store.new).map ≡ is_some (S.shown store.old).map }
     ensures full { IfSome (S.shown store.old).map (λ m. TellsFullOfChanges (S.nature store.old) (S.shown store.old) (call_changes P.acts p.old key.now m) result) }
     ensures whole { UnlessFault result (IsWhole S.stands store.new) }
     ensures refused { OnErr result (UnlessFault result (Keeps S.stands store.old store.new × KeepsSince S.stood store.old store.new × SameContents (S.shown store.old) (S.shown store.new))) }

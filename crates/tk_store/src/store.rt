@@ -1,5 +1,5 @@
 ghost use Rattle.std.specs.Prelude.{◌≡◌, ◌+◌, ◌-◌, ◌≤◌, ◌<◌, ◌^◌, ℕ, Bool, true, false, List, [], ◌∷◌, ◌++◌, length, Option, Some, None, IfOk, OnOk, OnErr, IfSome, if◌then◌else◌};
-ghost use Rattle.std.specs.Option.{option_map};
+ghost use Rattle.std.specs.Option.{is_some, option_map};
 ghost use Rattle.tk_model.specs.declared.record.Group.{Group};
 ghost use Rattle.tk_model.specs.declared.record.Change.{Change};
 ghost use Rattle.tk_model.specs.declared.record.Pair.{Pair};
@@ -148,6 +148,7 @@ pub trait SeqStore {
         ensures stands { UnlessFault result (Keeps stands self.old self.new) }
         ensures since { UnlessFault result (KeepsSince stood self.old self.new) }
         ensures safe { LeavesSafe stood safe [] self.old self.new }
+        ensures told { is_some (shown self.new).map ≡ is_some (shown self.old).map }
         ensures time { moment self.old ≤ moment self.new }
         ensures taken { taken_count self.old ≤ taken_count self.new }
         ensures cause { HasCause (fault_count self.old) (fault_count self.new) result };
@@ -170,6 +171,7 @@ pub trait SeqStore {
         ensures since { (changes : List Change) → prepared self.old changes → (t n : ℕ) (first : First) (since : List Group) (hard : ℕ) → stood self.old t n first since hard
             → OnOk result (stood self.new t n first (since ++ made (nature self.old) number changes) hard) }
         ensures safe { (changes : List Change) → prepared self.old changes → LeavesSafe stood safe (made (nature self.old) number changes) self.old self.new }
+        ensures told { is_some (shown self.new).map ≡ is_some (shown self.old).map }
         ensures nature { nature self.new ≡ nature self.old }
         ensures open { (shown self.new).closed ≡ false }
         ensures time { moment self.old ≤ moment self.new }

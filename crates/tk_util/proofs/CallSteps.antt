@@ -26,23 +26,23 @@ use Rattle.tk_append.specs.LogParts.{log_end}
 use Rattle.tk_append.specs.Opening.{first_fault}
 use Rattle.tk_hash.specs.declared.store.HashStore.{HashStore}
 use Rattle.tk_util.specs.declared.call.Stop.{Stop}
-use Rattle.tk_util.specs.declared.call.Stop.TheVariants.{Full}
+use Rattle.tk_util.specs.declared.call.Stop.TheVariants.{Full, Refused}
 use Rattle.tk_append.specs.Restored.{groups_in}
 use Rattle.tk_hash.specs.HashLaws.{hash_replays}
 use Rattle.tk_hash.specs.Hash.{HashStands, opening, groups_held, map_in, hash_disk, hash_head, hash_nature, hash_shown}
 use Rattle.tk_util.specs.Calls.{alone, Made, MadeOn, NoRoom, NoRoomOn, passes}
 
 -- the file of a header by its text and its p
-abbrev file_by : (text : List ℕ) (p : ℕ) → List Group → (count next : ℕ) → List ℕ
+abbrev pub file_by : (text : List ℕ) (p : ℕ) → List Group → (count next : ℕ) → List ℕ
 file_by text p groups count next =
     (text ++ closing_text (record { size = end_of (base_of p) (bodies_of groups); count = count; next = next }))
     ++ (heads_text p (laid (base_of p) (bodies_of groups)) ++ texts (laid (base_of p) (bodies_of groups)) (links_of p [] (laid (base_of p) (bodies_of groups))))
 
-same_p : (a b : StaticHead) → static_text a ≡ static_text b → a.p ≡ b.p
+pub same_p : (a b : StaticHead) → static_text a ≡ static_text b → a.p ≡ b.p
 unfolding static_text static_front
 same_p a b e = ap (λ (l : List ℕ). slice_index l 10) e
 
-by_text : (h : StaticHead) (groups : List Group) (next : ℕ) → closed_text h groups next ≡ file_by (static_text h) h.p groups (length (replay Hash groups [])) next
+pub by_text : (h : StaticHead) (groups : List Group) (next : ℕ) → closed_text h groups next ≡ file_by (static_text h) h.p groups (length (replay Hash groups [])) next
 unfolding file_text static_text
 by_text h groups next = refl
 
@@ -76,11 +76,11 @@ map_told None g y is = tt
 map_told (Some f) g y is = ap Some is
 
 -- the records of a store that was opened
-map_is : {D : Type 0} (image : D → Option (List ℕ)) (may_leave : D → List ℕ → Type 0) (s : HashStore D) (groups : List Group) → HashStands image may_leave s (opening groups) [] 0 → IfSome (image (hash_disk s)) (λ f. map_in image s ≡ Some (replay Hash groups []))
+pub map_is : {D : Type 0} (image : D → Option (List ℕ)) (may_leave : D → List ℕ → Type 0) (s : HashStore D) (groups : List Group) → HashStands image may_leave s (opening groups) [] 0 → IfSome (image (hash_disk s)) (λ f. map_in image s ≡ Some (replay Hash groups []))
 map_is image may_leave s groups st = map_told (image (hash_disk s)) (λ f. replay Hash (groups_in (hash_head s) f) []) (replay Hash groups []) (hash_replays image may_leave s (opening groups) [] 0 st)
 
 -- what is known of the records, where a disk tells them
-told_map : (o : Option (List ℕ)) (M : Option (List Pair)) (m : List Pair) (P : List Pair → Type 0) (R : Type 0) → IfSome o (λ f. M ≡ Some m) → IfSome M P → (P m → R) → IfSome o (λ f. R)
+pub told_map : (o : Option (List ℕ)) (M : Option (List Pair)) (m : List Pair) (P : List Pair → Type 0) (R : Type 0) → IfSome o (λ f. M ≡ Some m) → IfSome M P → (P m → R) → IfSome o (λ f. R)
 told_map None M m P R is holds go = tt
 told_map (Some f) M m P R is holds go = go (subst (λ (x : Option (List Pair)). IfSome x P) is holds)
 
@@ -198,9 +198,14 @@ memory_tells T R e is x = subst (λ (y : StoreError). UnlessFault {T = T} (Err y
 pub one_more : (next number closes : ℕ) → number ≡ next → next ≤ 2 ^ 62 → closes ≡ min (number + 1) (2 ^ 64 - 1) → closes ≡ next + 1
 one_more next number closes is low e = omega (arith, is, low, e)
 
-known : (o : Option (List ℕ)) (R : Type 0) → is_some o ≡ true → IfSome o (λ f. R) → R
+pub known : (o : Option (List ℕ)) (R : Type 0) → is_some o ≡ true → IfSome o (λ f. R) → R
 known (Some f) R same x = x
 known None R same x = absurd (cc same)
+
+-- a call on a file that was opened refuses no place
+pub no_place : (o : Option (List ℕ)) (answer : Result Status Stop) (P : List ℕ → ℕ → Type 0) → ((place : ℕ) → answer ≡ Err (Refused place) → ⊥) → IfSome o (λ f. (place : ℕ) → answer ≡ Err (Refused place) → P f place)
+no_place None answer P taken = tt
+no_place (Some f) answer P taken = λ place is. absurd (taken place is)
 
 -- the groups of a store that was opened, with the file that it was opened on
 abbrev pub Opened : {D : Type 0} (image : D → Option (List ℕ)) (may_leave : D → List ℕ → Type 0) → HashStore D → Option (List ℕ) → Type 0

@@ -7,4 +7,5 @@ pub mod Ready
 pub mod Replies
 pub mod SameCommand
 pub mod SetEndings
+pub mod Sparing
 pub mod WordSteps

@@ -15,6 +15,7 @@ use Rattle.tk_store.specs.Store.{extent_of, is_over}
 use Rattle.tk_store.specs.OneRecord.{call_changes}
 use Rattle.tk_block.specs.declared.head.StaticHead.{StaticHead}
 use Rattle.tk_append.specs.Log.{closed_text}
+use Rattle.tk_append.specs.Restored.{IsKept}
 use Rattle.tk_append.specs.Opening.{first_fault}
 use Rattle.tk_util.specs.declared.call.Stop.{Stop}
 use Rattle.tk_util.specs.declared.call.Stop.TheVariants.{Refused, Fault, NoMemory}
@@ -30,6 +31,10 @@ pub record Holds (writable : Bool) (f : List ℕ) : Type 0 where
   pub groups : List Group
   pub next : ℕ
   pub file : f ≡ closed_text head groups next
+
+-- where each image of a file has the header and the blocks of its groups, each later image has them
+abbrev pub Spares : (f : List ℕ) → (left leaves : List ℕ → Type 0) → Type 0
+Spares f left leaves = (holds : Holds true f) → ((d : List ℕ) → left d → IsKept holds.head holds.groups d) → (c : List ℕ) → leaves c → IsKept holds.head holds.groups c
 
 -- the bytes that changes need pass the limit of a file
 abbrev pub passes : (f : List ℕ) → List Change → Bool

@@ -107,6 +107,12 @@ file_of (Get c) = c.file
 file_of (Set c) = c.file
 file_of (Remove c) = c.file
 
+-- a command that may write
+abbrev pub writes : Command → Bool
+writes (Get c) = false
+writes (Set c) = true
+writes (Remove c) = true
+
 -- what a command leaves in its file, by an end
 abbrev pub RanFile : Command → (before after : World) → Finish → Type 0
 RanFile (Get c) before after finish = RanCall false get_reply c.key (before.files c.file) (after.files c.file) finish

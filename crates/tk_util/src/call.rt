@@ -5,10 +5,10 @@ ghost use Rattle.tk_model.specs.declared.record.Action.TheVariants.{Keep};
 ghost use Rattle.tk_model.specs.declared.record.Group.{Group};
 ghost use Rattle.tk_disk.specs.Disk.{Rose};
 ghost use Rattle.tk_append.specs.Log.{closed_text};
-ghost use Rattle.tk_store.specs.Store.{IsWhole};
+ghost use Rattle.tk_store.specs.Store.{IsWhole, LeavesSafe};
 ghost use Rattle.tk_util.specs.declared.call.Stop.{Stop as Stopped};
-ghost use Rattle.tk_util.specs.Calls.{Made, NoRoom, RefusedAt, MadeOn, NoRoomOn, StopTells};
-ghost use Rattle.tk_hash.specs.Hash.{HashStands, hash_disk, hash_head, hash_nature, hash_shown, opening};
+ghost use Rattle.tk_util.specs.Calls.{Made, NoRoom, RefusedAt, MadeOn, NoRoomOn, StopTells, Spares};
+ghost use Rattle.tk_hash.specs.Hash.{HashStands, HashSafe, HashStood, hash_disk, hash_head, hash_nature, hash_shown, opening};
 
 use std::alloc::Global;
 use tk_disk::Disk;
@@ -63,7 +63,10 @@ fn end_call<D: Disk>(store: &mut HashStore<D>, next: u64) -> Result<(), Stop>
     ensures kept { OnOk result (D.fault_count (hash_disk store.new) ≡ D.fault_count (hash_disk store.old)) }
     ensures later { D.fault_count (hash_disk store.old) ≤ D.fault_count (hash_disk store.new) }
     ensures fault { OnErr result (Rose (D.fault_count (hash_disk store.old)) (D.fault_count (hash_disk store.new))) }
-    ensures told { is_some (D.image (hash_disk store.new)) ≡ is_some (D.image (hash_disk store.old)) }
+    ensures safe { LeavesSafe (HashStood D.image D.may_leave D.moment D.left_since) (HashSafe D.image D.left_since) [] store.old store.new }
+    ensures nature { hash_nature store.new ≡ hash_nature store.old }
+    ensures told { is_some (hash_shown D.image store.new).map ≡ is_some (hash_shown D.image store.old).map }
+    ensures time { D.moment (hash_disk store.old) ≤ D.moment (hash_disk store.new) }
 {
     match store.close(next) {
         Ok(()) => Ok(()),
@@ -91,6 +94,11 @@ fn call_on<D: Disk, P: RecordProcessor>(
     ensures no_memory { (groups : List Group) → HashStands D.image D.may_leave store.old (opening groups) [] 0 → IfSome (D.image (hash_disk store.old)) (λ _.
         result ≡ Err Stop.NoMemory → D.image (hash_disk store.new) ≡ Some (closed_text (hash_head store.old) groups (hash_nature store.old).next)) }
     ensures taken { (place : ℕ) → result ≡ Err (Stop.Refused place) → ⊥ }
+    ensures safe { (groups : List Group) → HashStands D.image D.may_leave store.old (opening groups) [] 0 → IfSome (D.image (hash_disk store.old)) (λ _.
+        (since : List Group) × HashSafe D.image D.left_since store.new (D.moment (hash_disk store.old)) (opening groups) since 0) }
+    ensures nature { hash_nature store.new ≡ hash_nature store.old }
+    ensures told { is_some (hash_shown D.image store.new).map ≡ is_some (hash_shown D.image store.old).map }
+    ensures time { D.moment (hash_disk store.old) ≤ D.moment (hash_disk store.new) }
     ensures kept { OnOk result (D.fault_count (hash_disk store.new) ≡ D.fault_count (hash_disk store.old)) }
     ensures later { D.fault_count (hash_disk store.old) ≤ D.fault_count (hash_disk store.new) }
     ensures fault { result ≡ Err Stop.Fault → Rose (D.fault_count (hash_disk store.old)) (D.fault_count (hash_disk store.new)) }
@@ -127,6 +135,7 @@ pub(crate) fn run_call<D: Disk, P: RecordProcessor>(
     ensures no_room { IfSome (D.image disk) (λ f. result.answer ≡ Err Stop.Full → NoRoom P.acts writable f key.now p.old (D.image result.disk)) }
     ensures refused { IfSome (D.image disk) (λ f. (place : ℕ) → result.answer ≡ Err (Stop.Refused place) → RefusedAt writable f place × (D.image result.disk ≡ Some f)) }
     ensures no_memory { IfSome (D.image disk) (λ f. result.answer ≡ Err Stop.NoMemory → D.image result.disk ≡ Some f) }
+    ensures spared { writable ≡ true → IfSome (D.image disk) (λ f. Spares f (D.may_leave disk) (D.may_leave result.disk)) }
     ensures kept { OnOk result.answer (D.fault_count result.disk ≡ D.fault_count disk) }
     ensures later { D.fault_count disk ≤ D.fault_count result.disk }
     ensures fault { result.answer ≡ Err Stop.Fault → Rose (D.fault_count disk) (D.fault_count result.disk) }

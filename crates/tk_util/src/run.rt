@@ -1,8 +1,9 @@
 ghost use Rattle.std.specs.Prelude.{◌≡◌, ◌⊎◌, ◌↔◌, ℕ, List, true, Some, None};
 ghost use Rattle.tk_disk.specs.Disk.{Rose};
-ghost use Rattle.tk_disk.specs.Folder.{NoneOut};
+ghost use Rattle.tk_disk.specs.Folder.{NoneOut, or_empty};
+ghost use Rattle.tk_util.specs.Calls.{Spares};
 ghost use Rattle.tk_util.specs.Words.{Command, command_of, words_of};
-ghost use Rattle.tk_util.specs.Ran.{Ran, Settled, file_of, IsRunStatus, IsEnd};
+ghost use Rattle.tk_util.specs.Ran.{Ran, Settled, file_of, writes, IsRunStatus, IsEnd};
 
 use crate::key::{run_get, run_remove};
 use crate::set::run_set;
@@ -28,6 +29,8 @@ pub fn run_util<F: Folder, R: Source, W: Sink>(
     ensures settled { (c : Command) → command_of (words_of words.now) ≡ Some c → F.tells folder.old ≡ true
         → Settled c (record { files = F.file folder.old; left = R.left source.old; held = W.held out.old }) (record { files = F.file folder.new; left = R.left source.new; held = W.held out.old })
         ⊎ Rose (F.disk_faults folder.old (file_of c)) (F.disk_faults folder.new (file_of c)) }
+    ensures spared { (c : Command) → command_of (words_of words.now) ≡ Some c → writes c ≡ true → F.tells folder.old ≡ true
+        → Spares (or_empty (F.file folder.old (file_of c))) (F.leaves folder.old (file_of c)) (F.leaves folder.new (file_of c)) }
     ensures left { R.left source.new ≡ R.left source.old }
     ensures fields { IsEnd result }
     ensures status { (c : Command) → command_of (words_of words.now) ≡ Some c → IsRunStatus result.status }

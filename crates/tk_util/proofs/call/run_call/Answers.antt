@@ -1,5 +1,8 @@
+use Rattle.std.proofs.Common.{◌≡◌, Some, ◌∙◌}
+use Rattle.tk_util.specs.Calls.{RefusedAt}
 use Rattle.tk_hash.specs.Hash.{hash_disk}
-use Rattle.tk_util.proofs.CallSteps.{made_at, no_room_at}
+use Rattle.tk_util.proofs.CallSteps.{made_at, no_room_at, no_place}
+use Rattle.tk_util.proofs.Sparing.{spared_at, spared_back}
 use Rattle.tk_util.proofs.call.run_call.Goals as goal
 
 pub returns-clause-made : goal.returns-clause-made
@@ -11,3 +14,16 @@ pub returns-clause-no_room : goal.returns-clause-no_room
 returns-clause-no_room g c =
     no_room_at g.D.Disk.image g.D.Disk.may_leave g.P.RecordProcessor.acts (g.D.Disk.image c.args.disk) c.in-Ok.store (hash_disk c.call_on-answer.new.store) c.into_disk.result c.args.writable c.args.key.now c.args.p.now c.call_on-answer.result
     c.in-Ok.ensures.exact c.in-Ok.ensures.opened c.in-Ok.ensures.told c.into_disk.ensures c.call_on-answer.ensures.no_room
+
+pub returns-clause-spared : goal.returns-clause-spared
+returns-clause-spared g c = λ may.
+    spared_at g.D.Disk.image g.D.Disk.may_leave g.D.Disk.moment g.D.Disk.left_since g.met.D.Disk.counts_now (g.D.Disk.image c.args.disk) c.in-Ok.store c.call_on-answer.new.store c.into_disk.result (g.D.Disk.may_leave c.args.disk)
+    c.in-Ok.ensures.opened (c.in-Ok.ensures.mode.0 ∙ may) c.in-Ok.ensures.told c.into_disk.ensures c.call_on-answer.ensures.told c.call_on-answer.ensures.nature c.call_on-answer.ensures.time c.call_on-answer.ensures.safe
+
+pub returns-in-Err-clause-spared : goal.returns-in-Err-clause-spared
+returns-in-Err-clause-spared g c = λ may.
+    spared_back g.D.Disk.image g.D.Disk.may_leave g.D.Disk.moment g.D.Disk.left_since g.met.D.Disk.counts_now (g.D.Disk.image c.args.disk) c.args.disk _ c.in-Err.ensures.back_time
+
+pub returns-clause-refused : goal.returns-clause-refused
+returns-clause-refused g c =
+    no_place (g.D.Disk.image c.args.disk) c.call_on-answer.result (λ f place. RefusedAt c.args.writable f place × (g.D.Disk.image c.into_disk.result ≡ Some f)) c.call_on-answer.ensures.taken

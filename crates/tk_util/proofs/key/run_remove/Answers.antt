@@ -1,6 +1,7 @@
 use Rattle.std.proofs.Common.{refl, ◌∙◌, inl, inr}
 use Rattle.tk_status.specs.Finish.{ended}
 use Rattle.tk_util.proofs.Endings.{ran_call, ran_absent, ran_stopped, empty_refused, there, from_none, from_some, on_some, two_names, not_status, settled_call, rose_moved}
+use Rattle.tk_util.proofs.Sparing.{spares_history, spares_through}
 use Rattle.tk_util.proofs.key.run_remove.Goals as goal
 
 pub returns-in-Ok-None-clause-ran : goal.returns-in-Ok-None-clause-ran
@@ -30,3 +31,16 @@ returns-clause-settled g c = λ left held tells.
 
 pub returns-in-Err-Fault-clause-settled : goal.returns-in-Err-Fault-clause-settled
 returns-in-Err-Fault-clause-settled g c = λ left held tells. inl (ended 5, (λ h. cc h), ran_stopped _ _ _ _ _ (ended 5) (inr refl) c.in-Err-Fault.ensures.err_same)
+
+pub returns-in-Ok-None-clause-spared : goal.returns-in-Ok-None-clause-spared
+returns-in-Ok-None-clause-spared g c = λ tells. spares_history _ _ _ _ _ _ _ (from_none _ c.in-Ok-None.field-0-is c.in-Ok-None.ensures.none_crash)
+
+pub returns-in-Err-Fault-clause-spared : goal.returns-in-Err-Fault-clause-spared
+returns-in-Err-Fault-clause-spared g c = λ tells. spares_history _ _ _ _ _ _ _ c.in-Err-Fault.ensures.err_crash
+
+pub returns-in-Err-NoMemory-clause-spared : goal.returns-in-Err-NoMemory-clause-spared
+returns-in-Err-NoMemory-clause-spared g c = λ tells. spares_history _ _ _ _ _ _ _ c.in-Err-NoMemory.ensures.err_crash
+
+pub returns-clause-spared : goal.returns-clause-spared
+returns-clause-spared g c = λ tells.
+    spares_through _ _ _ _ _ _ (from_some _ _ _ c.in-Ok-Some.field-0-is c.in-Ok-Some.ensures.image tells) c.remove_from-disk.ensures.spared (from_some _ _ _ c.in-Ok-Some.field-0-is c.in-Ok-Some.ensures.crash).crash c.give-given.ensures.crash.crash

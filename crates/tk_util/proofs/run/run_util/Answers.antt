@@ -2,7 +2,11 @@ use Rattle.std.proofs.Common.{◌∙◌, ap}
 use Rattle.std.specs.Prelude.{Some}
 use Rattle.tk_util.specs.declared.words.Asked.{Asked}
 use Rattle.tk_util.specs.Asked.{said}
-use Rattle.tk_util.proofs.SameCommand.{same_command, same_settled}
+use Rattle.tk_disk.specs.Folder.{or_empty}
+use Rattle.tk_util.specs.Calls.{Spares}
+use Rattle.tk_util.specs.Ran.{file_of}
+use Rattle.tk_util.specs.Words.{Command}
+use Rattle.tk_util.proofs.SameCommand.{same_command, same_settled, same_of, get_reads}
 use Rattle.tk_util.proofs.run.run_util.Goals as goal
 
 pub returns-in-Some-Get-clause-ran : goal.returns-in-Some-Get-clause-ran
@@ -28,3 +32,16 @@ pub returns-in-Some-Remove-clause-settled : goal.returns-in-Some-Remove-clause-s
 returns-in-Some-Remove-clause-settled g c = λ d asked tells.
     same_settled _ _ (g.F.Folder.disk_faults c.args.folder.now) (g.F.Folder.disk_faults c.run_remove.new.folder) _ _ _ asked (c.in-Some-Remove.ensures.read ∙ ap (λ (a : Asked). Some (said a)) c.in-Some-Remove.field-0-is)
     (c.run_remove.ensures.settled (g.R.Source.left c.args.source.now) (g.W.Sink.held c.args.out.now) tells)
+
+pub returns-in-Some-Get-clause-spared : goal.returns-in-Some-Get-clause-spared
+returns-in-Some-Get-clause-spared g c = λ d asked may tells. absurd (get_reads _ _ _ asked (c.in-Some-Get.ensures.read ∙ ap (λ (a : Asked). Some (said a)) c.in-Some-Get.field-0-is) may)
+
+pub returns-in-Some-Set-clause-spared : goal.returns-in-Some-Set-clause-spared
+returns-in-Some-Set-clause-spared g c = λ d asked may tells.
+    same_of (λ (x : Command). Spares (or_empty (g.F.Folder.file c.args.folder.now (file_of x))) (g.F.Folder.leaves c.args.folder.now (file_of x)) (g.F.Folder.leaves c.run_set.new.folder (file_of x))) _ _ _ asked
+    (c.in-Some-Set.ensures.read ∙ ap (λ (a : Asked). Some (said a)) c.in-Some-Set.field-0-is) (c.run_set.ensures.spared tells)
+
+pub returns-in-Some-Remove-clause-spared : goal.returns-in-Some-Remove-clause-spared
+returns-in-Some-Remove-clause-spared g c = λ d asked may tells.
+    same_of (λ (x : Command). Spares (or_empty (g.F.Folder.file c.args.folder.now (file_of x))) (g.F.Folder.leaves c.args.folder.now (file_of x)) (g.F.Folder.leaves c.run_remove.new.folder (file_of x))) _ _ _ asked
+    (c.in-Some-Remove.ensures.read ∙ ap (λ (a : Asked). Some (said a)) c.in-Some-Remove.field-0-is) (c.run_remove.ensures.spared tells)

@@ -8,6 +8,7 @@ use Rattle.tk_util.specs.Ends.{call_end}
 use Rattle.tk_util.specs.Ran.{RanSet}
 use Rattle.tk_util.proofs.Endings.{ran, has_bytes, from_some, two_names, told_call, no_fault, rose_moved}
 use Rattle.tk_util.proofs.SetEndings.{ok_fresh, fresh_end, memory_end, not_made}
+use Rattle.tk_util.proofs.Sparing.{spares_history, spares_through}
 use Rattle.tk_util.proofs.set.run_set.Given as Given
 use Rattle.tk_util.proofs.set.run_set.Goals as goal
 
@@ -37,3 +38,13 @@ returns-clause-settled g c = λ left held tells.
 
 pub returns-in-Err-Fault-clause-settled : goal.returns-in-Err-Fault-clause-settled
 returns-in-Err-Fault-clause-settled g c = λ left held tells. inl (not_made _ _ _ c.in-Err-Fault.ensures.err_same c.take.ensures.others refl refl)
+
+pub returns-in-Err-Fault-clause-spared : goal.returns-in-Err-Fault-clause-spared
+returns-in-Err-Fault-clause-spared g c = λ tells. spares_history _ _ _ _ _ _ _ c.in-Err-Fault.ensures.err_crash
+
+pub returns-in-Err-NoMemory-clause-spared : goal.returns-in-Err-NoMemory-clause-spared
+returns-in-Err-NoMemory-clause-spared g c = λ tells. spares_history _ _ _ _ _ _ _ c.in-Err-NoMemory.ensures.err_crash
+
+pub returns-clause-spared : goal.returns-clause-spared
+returns-clause-spared g c = λ tells.
+    spares_through _ _ _ _ _ _ (from_some _ _ _ c.in-Ok-Some.field-0-is c.in-Ok-Some.ensures.image tells) c.set_on-disk.ensures.spared (from_some _ _ _ c.in-Ok-Some.field-0-is c.in-Ok-Some.ensures.crash).crash c.give-given.ensures.crash.crash

@@ -1,5 +1,18 @@
 use Rattle.tk_util.proofs.SetEndings.{moved}
+use Rattle.tk_util.proofs.Sparing.{spares_left, spares_moved}
 use Rattle.tk_util.proofs.set.set_on.Goals as goal
 
 pub returns-in-Ok-false-clause-more : goal.returns-in-Ok-false-clause-more
 returns-in-Ok-false-clause-more g c = moved _ _ _ c.set_fresh.ensures.kept c.set_more.ensures.call
+
+pub returns-in-Ok-false-clause-spared : goal.returns-in-Ok-false-clause-spared
+returns-in-Ok-false-clause-spared g c = spares_moved _ _ _ _ _ c.set_fresh.ensures.kept c.set_fresh.ensures.left c.set_more.ensures.spared
+
+pub returns-in-Ok-true-clause-spared : goal.returns-in-Ok-true-clause-spared
+returns-in-Ok-true-clause-spared g c = spares_left _ _ _ c.set_fresh.ensures.left
+
+pub returns-in-Err-Fault-clause-spared : goal.returns-in-Err-Fault-clause-spared
+returns-in-Err-Fault-clause-spared g c = spares_left _ _ _ c.set_fresh.ensures.left
+
+pub returns-in-Err-NoMemory-clause-spared : goal.returns-in-Err-NoMemory-clause-spared
+returns-in-Err-NoMemory-clause-spared g c = spares_left _ _ _ c.set_fresh.ensures.left

@@ -7,7 +7,7 @@ use Rattle.tk_store.specs.Store.{Nature, First, made, extent_of, extents_need}
 use Rattle.tk_append.specs.LogParts.{log_disk, log_head, log_end}
 use Rattle.tk_hash.specs.Hash.{hash_nature, groups_held, IsStaged, HashPrepared, HashStands, KeepsGroups}
 use Rattle.tk_hash.proofs.HashKeeps.{stood_as, safe_as}
-use Rattle.tk_hash.proofs.HashGrows.{restaged, staged_is, staged_still, one_made, sum_is, map_more}
+use Rattle.tk_hash.proofs.HashGrows.{restaged, staged_is, staged_still, one_made, sum_is, map_more, mapped_still}
 use Rattle.tk_hash.proofs.store.HashStoreSeqStore.apply_reserved.Given as Given
 use Rattle.tk_hash.proofs.store.HashStoreSeqStore.apply_reserved.Goals as goal
 
@@ -44,6 +44,9 @@ pub returns-in-Some-clause-safe : goal.returns-in-Some-clause-safe
 returns-in-Some-clause-safe g c changes p t n first since hard st =
     safe_as g.D.Disk.image g.D.Disk.may_leave g.D.Disk.moment g.D.Disk.left_since c.args.self.now c.put_staged.new.self t n first since (made (hash_nature c.args.self.now) c.args.number changes) hard st
     c.put_staged.ensures.head (ap (λ (k : Nature). k.writable) c.put_staged.ensures.nature) c.put_staged.ensures.told (keeps g c changes p first since hard st.stands)
+
+pub returns-in-Some-clause-told : goal.returns-in-Some-clause-told
+returns-in-Some-clause-told g c = mapped_still _ _ (g.D.Disk.image (log_disk c.args.self.now.log)) (g.D.Disk.image (log_disk c.put_staged.new.self.log)) c.put_staged.ensures.told
 
 pub returns-in-Some-clause-map : goal.returns-in-Some-clause-map
 returns-in-Some-clause-map g c changes p =
