@@ -247,7 +247,7 @@ fn folder_of_one(alloc: Global, faults: &[u64]) -> Result<MemFolder, NoMemory>
 fn each_failing_call_of_a_second_set(rt: HostRuntime) -> Result<(), Fail> {
     let alloc = rt.alloc();
     let set = words(alloc, &["set", "x.tkh", "b", "22"])?;
-    for call in 0..10 {
+    for call in 0..15 {
         let mut folder = folder_of_one(alloc, &[call])?;
         assert_eq!(rt;
             run_in(alloc, &set, &mut folder).0,
@@ -255,7 +255,7 @@ fn each_failing_call_of_a_second_set(rt: HostRuntime) -> Result<(), Fail> {
             "disk's call {call}"
         );
     }
-    let mut folder = folder_of_one(alloc, &[10])?;
+    let mut folder = folder_of_one(alloc, &[15])?;
     assert_eq!(rt; run_in(alloc, &set, &mut folder).0, Finish::with(0));
     Ok(())
 }
