@@ -12,3 +12,8 @@ mod shelf;
 mod store;
 
 pub use store::HashStore;
+
+#[cfg(test)]
+mod crash_tests;
+#[cfg(test)]
+mod tests;
