@@ -14,4 +14,8 @@ mod store;
 pub use store::HashStore;
 
 #[cfg(test)]
+mod crash_tests;
+#[cfg(test)]
 mod shelf_tests;
+#[cfg(test)]
+mod tests;
