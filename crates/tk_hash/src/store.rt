@@ -27,6 +27,7 @@ pub(crate) struct Staged {
 }
 
 /// A store over a hash file of kind 1. Records stay in the file: a look-up reads the chain of its bucket.
+#[derive(Drop)]
 pub struct HashStore<D: Disk> {
     pub(crate) alloc: Global,
     pub(crate) log: GroupLog<D>,
