@@ -30,7 +30,7 @@ use Rattle.tk_util.specs.declared.call.Stop.TheVariants.{Full, Refused}
 use Rattle.tk_append.specs.Restored.{groups_in}
 use Rattle.tk_hash.specs.HashLaws.{hash_replays}
 use Rattle.tk_hash.specs.Hash.{HashStands, opening, groups_held, map_in, hash_disk, hash_head, hash_nature, hash_shown}
-use Rattle.tk_util.specs.Calls.{alone, Made, MadeOn, NoRoom, NoRoomOn, passes}
+use Rattle.tk_util.specs.Calls.{alone, Made, MadeOn, NoRoom, NoRoomOn}
 
 -- the file of a header by its text and its p
 abbrev pub file_by : (text : List ℕ) (p : ℕ) → List Group → (count next : ℕ) → List ℕ

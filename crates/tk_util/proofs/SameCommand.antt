@@ -1,5 +1,5 @@
 -- The words ask for one command.
-use Rattle.std.proofs.Common.{◌≡◌, ℕ, Bool, true, false, List, sym, subst}
+use Rattle.std.proofs.Common.{◌≡◌, ℕ, true, false, List, subst}
 use Rattle.std.specs.Prelude.{Option, Some, ◌⊎◌}
 use Rattle.tk_disk.specs.Disk.{Rose}
 use Rattle.tk_status.specs.declared.finish.Finish.{Finish}
