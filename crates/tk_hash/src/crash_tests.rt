@@ -72,3 +72,14 @@ fn each_crash_leaves_a_front(rt: HostRuntime) -> Result<(), Fail> {
     }
     Ok(())
 }
+
+#[test]
+fn a_group_stands_before_its_heads(rt: HostRuntime) -> Result<(), Fail> {
+    let alloc = rt.alloc();
+    // Six calls make the file, three read, and then the group and its head are written.
+    let mut store = fresh(alloc, 0, 1 << 30, &[10])?;
+    let failed = set(alloc, &mut store, 0, b"a", b"1");
+    assert_eq!(rt; store.into_disk().bytes().len(), 120);
+    assert!(rt; failed.is_err());
+    Ok(())
+}
