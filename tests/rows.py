@@ -133,6 +133,8 @@ SECOND = hash_file([(0, [(1, b"a", b"1")]), (1, [(1, b"b", b"22")])], 2, 2)
 AGAIN = hash_file([(0, [(1, b"a", b"1")]), (1, [(1, b"a", b"2")])], 1, 2)
 REMOVED = hash_file([(0, [(1, b"a", b"1")]), (1, [(2, b"a", b"")])], 0, 2)
 REMOVED_TWICE = hash_file([(0, [(1, b"a", b"1")]), (1, [(2, b"a", b"")])], 0, 3)
+# A file that is longer than what is read at once, with a block across the end of what was read.
+LARGE = hash_file([(0, [(1, b"a", b"x" * 700000)]), (1, [(1, b"b", b"y" * 700000)]), (2, [(1, b"c", b"1")])], 3, 3)
 # A file whose value has, at its place, the text of a block.
 INSIDE = one_set(b"a", block(1, 1, 1, b"x", b"y", 8256 + 41, 0))
 LETTERS = one_set("\u00e9\u4e16".encode(), "\u00fc".encode())
@@ -201,6 +203,11 @@ ROWS = {
         Step(["get", "m.tkh", "key 7"], 0, out=b"value 7\n", files={"m.tkh": MANY}),
         Step(["get", "m.tkh", "key 1499"], 0, out=b"value 1499\n", files={"m.tkh": MANY}),
         Step(["get", "m.tkh", "key 1500"], 6, err=b"answer NOT_FOUND_ERROR\n", files={"m.tkh": MANY})]),
+    "a file longer than a piece": ({"l.tkh": LARGE}, [
+        Step(["get", "l.tkh", "c"], 0, out=b"1\n", files={"l.tkh": LARGE}),
+        Step(["get", "l.tkh", "b"], 0, out=b"y" * 700000 + b"\n", files={"l.tkh": LARGE})]),
+    "a long file with a flipped byte at its end": ({"l.tkh": flipped(LARGE, len(LARGE) - 3)}, [
+        Step(["get", "l.tkh", "c"], 3, err=b"file 0 refused at place %d\n" % (len(LARGE) - 48), files={"l.tkh": flipped(LARGE, len(LARGE) - 3)})]),
     "a file cut by one byte": refused(SECOND[:-1], 32),
     "a byte too many": refused(SECOND + b"\0", 32),
     "another file's first letters": refused(b"!" + SECOND[1:], 0),

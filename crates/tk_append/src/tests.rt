@@ -118,25 +118,3 @@ fn a_fresh_file_is_checked(rt: HostRuntime) -> Result<(), Fail> {
     assert_eq!(rt; sum_of(&disk), (72, 0x71c84c289f5a334c));
     Ok(())
 }
-
-/// A value of so many bytes.
-fn long_value(alloc: Global, len: usize) -> Result<Vec<u8>, Fail> {
-    let mut value = Vec::new(alloc);
-    value.resize(len, b'x')?;
-    Ok(value)
-}
-
-#[test]
-fn a_file_longer_than_a_piece_is_counted(rt: HostRuntime) -> Result<(), Fail> {
-    let alloc = rt.alloc();
-    let value = long_value(alloc, 700_000)?;
-    let mut pairs = PairList::new(alloc);
-    add(alloc, &mut pairs, b"a", &value)?;
-    add(alloc, &mut pairs, b"b", &value)?;
-    add(alloc, &mut pairs, b"c", b"1")?;
-    let mut disk = empty_disk(alloc)?;
-    write_fresh(alloc, &mut disk, &head_of(1, 2), &pairs)?;
-    let read = read_counted(alloc, disk, &[1], false, ALONE);
-    assert!(rt; read.is_ok_and(|read| (read.count, read.next) == (3, 1)));
-    Ok(())
-}
