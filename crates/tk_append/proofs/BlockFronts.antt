@@ -1,29 +1,26 @@
 -- A block is judged alike on its own bytes and on all that follow.
-use Rattle.std.proofs.Common.{◌≡◌, ◌≢◌, ℕ, zero, suc, ◌+◌, ◌-◌, ◌<◌, ◌≤◌, ◌⊎◌, inl, inr, Bool, true, false, cond, List, [], ◌∷◌, ◌++◌, length, take, drop, refl, sym, ◌∙◌, ap, subst, arith, append_assoc}
-use Rattle.std.specs.Prelude.{◌^◌, Option, Some, None, ◌==◌, ◌&&◌, nat_le}
+use Rattle.std.proofs.Common.{◌≡◌, ◌≢◌, ℕ, ◌-◌, ◌≤◌, inl, inr, Bool, true, false, List, ◌++◌, length, take, drop, refl, sym, ◌∙◌, ap, subst, arith, append_assoc}
+use Rattle.std.specs.Prelude.{◌^◌, Option, Some, None, nat_le}
 use Rattle.std.specs.Io.{StartsWith}
-use Rattle.std.proofs.lemmas.Bool.{eq-eqb, ne_eqb, le-leb, leb-true, eqb-true, cases_eq}
+use Rattle.std.proofs.lemmas.Bool.{le-leb, cases_eq}
 use Rattle.std.proofs.lemmas.Bool.Decides.{nat_tests}
 use Rattle.std.proofs.lemmas.Option.{cond_some}
-use Rattle.std.proofs.lemmas.List.{append-nil, length-append, length-drop, length-take, drop-append-le, take-append-le, take-append-drop, drop_all}
-use Rattle.std.proofs.Math.Seq.{take-append_seam}
+use Rattle.std.proofs.lemmas.List.{length-append, length-drop, length-take, drop-append-le, take-append-le, take-append-drop}
 use Rattle.tk_model.specs.declared.record.ShardOf.{ShardOf}
 use Rattle.tk_block.specs.declared.block.Body.{Body}
 use Rattle.tk_block.specs.declared.head.StaticHead.{StaticHead}
 use Rattle.tk_block.specs.Number.{u64_in}
 use Rattle.tk_block.specs.Text.{head_at, head_text}
 use Rattle.tk_block.specs.Blocks.{body_at, body_text, extent_of, room_of, is_body}
-use Rattle.tk_block.specs.Layout.{link_of}
 use Rattle.tk_block.specs.Grammar.{Reads, FitsBody, FitsExtent}
 use Rattle.tk_model.specs.declared.error.OpenError.{OpenError}
 use Rattle.tk_model.specs.declared.error.OpenError.TheVariants as errors
-use Rattle.tk_block.proofs.Bodies.{two_true}
 use Rattle.tk_block.proofs.BodyGrammar.{bodies, length-body_text}
 use Rattle.tk_block.proofs.Grammar.{heads}
-use Rattle.tk_block.proofs.Heads.{length-head_text, three_true}
-use Rattle.tk_append.specs.Opening.{Walk, Outcome, FailsAt, walk_block, walked, may_stand, is_padded, is_in_turn, is_home}
-use Rattle.tk_append.specs.Walked.{MayFollow, Fails, HoldsBlock}
-use Rattle.tk_append.proofs.WalkerSteps.{Stood, stood}
+use Rattle.tk_block.proofs.Heads.{length-head_text}
+use Rattle.tk_append.specs.Opening.{Walk, Outcome, walk_block, may_stand, is_padded}
+use Rattle.tk_append.specs.Walked.{MayFollow, Fails}
+use Rattle.tk_append.proofs.WalkerSteps.{stood}
 use Rattle.tk_append.proofs.Windows.{cut, starts, u64_same}
 
 -- what is found at the front is found there whatever follows the text

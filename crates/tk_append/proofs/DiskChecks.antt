@@ -1,10 +1,9 @@
 -- The check of a whole file, from the parts that were read of it.
-use Rattle.std.proofs.Common.{◌≡◌, ℕ, zero, suc, ◌+◌, ◌-◌, ◌*◌, ◌<◌, ◌≤◌, ◌^◌, List, [], ◌∷◌, ◌++◌, length, get_or, take, drop, refl, sym, ◌∙◌, ap, subst, arith, append_assoc}
+use Rattle.std.proofs.Common.{◌≡◌, ℕ, ◌+◌, ◌<◌, ◌≤◌, List, ◌++◌, length, get_or, drop, refl, sym, ◌∙◌, ap, subst, arith, append_assoc}
 use Rattle.std.specs.Prelude.{Bool, Option, Some, None, IfSome, Result, Ok, Err, OnOk, IfErr}
 use Rattle.std.specs.Result.{IsErrAnd}
 use Rattle.std.specs.Io.{StartsWith}
-use Rattle.std.proofs.lemmas.List.{append-nil, drop_at, drop_all, take_all, length-append, length-drop, length-take}
-use Rattle.std.proofs.Math.Seq.{take-append_seam}
+use Rattle.std.proofs.lemmas.List.{drop_at, take_all, length-append, length-drop}
 use Rattle.tk_model.specs.declared.record.ShardOf.{ShardOf}
 use Rattle.tk_model.specs.declared.error.OpenError.{OpenError}
 use Rattle.tk_model.specs.declared.error.OpenError.TheVariants.{NotADatabase, BrokenAt, Fault, NoMemory}
@@ -14,12 +13,12 @@ use Rattle.tk_block.specs.declared.closing.Closing.{Closing}
 use Rattle.tk_append.specs.Chains.{HeadsAre}
 use Rattle.tk_append.specs.Opening.{Walk, Outcome, FailsAt, Ends, walk, first_fault, closing_fault, end_fault}
 use Rattle.tk_append.specs.Log.{TellsCause}
-use Rattle.tk_append.specs.Read.{IsOutside, IsClosedOn, TellsResult}
-use Rattle.tk_append.specs.Walked.{IsAt, Shows, WalkedAll, WalkFails}
-use Rattle.tk_append.specs.Checked.{Finds, FindsCause, HeadIn, ClosingIn, IsFront, HasHeads, HeadFails, IsFound, IsClosed}
+use Rattle.tk_append.specs.Read.{IsClosedOn, TellsResult}
+use Rattle.tk_append.specs.Walked.{Shows, WalkedAll, WalkFails}
+use Rattle.tk_append.specs.Checked.{Finds, FindsCause, HeadIn, IsFront, HasHeads, HeadFails}
 use Rattle.tk_append.specs.declared.check.Found.{Found}
 use Rattle.tk_append.specs.declared.walker.Walker.{Walker}
-use Rattle.tk_append.proofs.Windows.{cut, starts, shows_both}
+use Rattle.tk_append.proofs.Windows.{starts, shows_both}
 use Rattle.tk_append.proofs.Scans.{small_both}
 use Rattle.tk_append.proofs.Checked.{to_the_end, end_told, short_file}
 use Rattle.tk_append.proofs.ClosedFiles.{closed_is}

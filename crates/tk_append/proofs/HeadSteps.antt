@@ -1,6 +1,6 @@
 -- The heads of a file, piece by piece.
-use Rattle.std.proofs.Common.{◌≡◌, ℕ, zero, suc, ◌+◌, ◌-◌, ◌*◌, ◌<◌, ◌≤◌, ◌^◌, List, [], ◌++◌, length, get_or, drop, refl, sym, ◌∙◌, ap, subst, arith}
-use Rattle.std.specs.Prelude.{Option, Some, None, IfSome}
+use Rattle.std.proofs.Common.{◌≡◌, ℕ, ◌+◌, ◌-◌, ◌*◌, ◌<◌, ◌≤◌, ◌^◌, List, ◌++◌, length, get_or, drop, refl, sym, ◌∙◌, ap, subst, arith}
+use Rattle.std.specs.Prelude.{Option, Some, None}
 use Rattle.std.specs.Io.{StartsWith}
 use Rattle.std.proofs.lemmas.List.{drop-drop, length-append}
 use Rattle.tk_block.specs.Number.{u64_in}
@@ -8,11 +8,11 @@ use Rattle.tk_block.specs.Layout.{Placed}
 use Rattle.tk_append.specs.Chains.{HeadsAre}
 use Rattle.tk_append.specs.Opening.{head_fault}
 use Rattle.tk_append.specs.Walked.{Shows}
-use Rattle.tk_append.specs.Checked.{HeadsStand, HeadFails}
+use Rattle.tk_append.specs.Checked.{HeadFails}
 use Rattle.tk_append.proofs.Checked.{head_next, head_other}
 use Rattle.tk_append.proofs.Fronts.{word_behind}
 use Rattle.tk_append.proofs.Scans.{small_both}
-use Rattle.tk_append.proofs.Windows.{starts_first, starts_rest, shows_both, shows_none}
+use Rattle.tk_append.proofs.Windows.{starts_first, starts_rest, shows_both}
 
 -- the heads as far as this stand in the file
 pub record HeadsSo (image : Option (List ℕ)) (heads : List ℕ) (first : ℕ) : Type 0 where

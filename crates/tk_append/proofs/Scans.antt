@@ -1,18 +1,16 @@
 -- A walk over a file that is read in pieces.
 use Rattle.std.proofs.Common.{◌≡◌, ℕ, zero, suc, ◌+◌, ◌-◌, ◌<◌, ◌≤◌, ◌⊎◌, inl, inr, List, [], ◌∷◌, ◌++◌, length, get_or, take, drop, refl, sym, ◌∙◌, ap, subst, arith, append_assoc}
-use Rattle.std.specs.Prelude.{◌^◌, Option, Some, None, IfSome, Result, Ok, Err, IfErr}
+use Rattle.std.specs.Prelude.{Option, Some, None, IfSome, Result, Ok, Err, IfErr}
 use Rattle.std.specs.Result.{IsErrAnd}
 use Rattle.std.specs.Io.{StartsWith}
-use Rattle.std.proofs.lemmas.List.{append-nil, drop_at, drop_all, length-append, length-drop, length-take, drop-drop, take-append-drop}
+use Rattle.std.proofs.lemmas.List.{append-nil, drop_at, drop_all, length-append, length-drop, length-take, drop-drop}
 use Rattle.tk_model.specs.declared.record.ShardOf.{ShardOf}
 use Rattle.tk_model.specs.declared.error.OpenError.{OpenError}
 use Rattle.tk_model.specs.declared.error.OpenError.TheVariants.{NotADatabase, BrokenAt, Fault, NoMemory}
-use Rattle.tk_block.specs.Layout.{Placed}
-use Rattle.tk_block.specs.Text.{head_at, base_of}
-use Rattle.tk_block.specs.Blocks.{body_at}
+use Rattle.tk_block.specs.Text.{base_of}
 use Rattle.tk_block.specs.declared.head.StaticHead.{StaticHead}
-use Rattle.tk_append.specs.Opening.{Walk, Outcome, FailsAt, Ends, begin, walk, walk_on, walk_block, walked}
-use Rattle.tk_append.specs.Read.{IsOutside, OnlyReads}
+use Rattle.tk_append.specs.Opening.{Walk, begin, walk, walk_on, walked}
+use Rattle.tk_append.specs.Read.{OnlyReads}
 use Rattle.tk_append.specs.Walked.{Fails, HoldsBlock, IsAt, Passed, Shows, WalkedAll, WalkFails}
 use Rattle.tk_append.specs.declared.walker.Walker.{Walker}
 use Rattle.tk_append.proofs.WalkerSteps.{goes_on, walk_next, walk_end}

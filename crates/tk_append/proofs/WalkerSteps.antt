@@ -1,11 +1,9 @@
 -- A walk over blocks, block by block.
-use Rattle.std.proofs.Common.{◌≡◌, ℕ, zero, suc, ◌+◌, ◌-◌, ◌<◌, ◌≤◌, true, false, cond, List, [], ◌∷◌, ◌++◌, length, get_or, take, drop, refl, sym, ◌∙◌, ap, subst, arith}
-use Rattle.std.specs.Result.{IsErrAnd}
-use Rattle.std.specs.Prelude.{Result, Ok, Err, IfErr, Option, Some, None, option_map, map, ◌==◌, not, nat_le}
-use Rattle.std.proofs.lemmas.List.{drop_all, take_all, length-drop, drop-drop}
+use Rattle.std.proofs.Common.{◌≡◌, ℕ, suc, ◌+◌, ◌-◌, ◌<◌, ◌≤◌, true, false, cond, List, [], ◌∷◌, ◌++◌, length, get_or, take, drop, refl, sym, ◌∙◌, ap, subst, arith}
+use Rattle.std.specs.Prelude.{Option, Some, None, option_map, map, ◌==◌, not, nat_le}
+use Rattle.std.proofs.lemmas.List.{drop_all, take_all, length-drop}
 use Rattle.std.proofs.lemmas.Bool.{eq-eqb, eqb-true, leb-true}
-use Rattle.tk_model.specs.declared.error.OpenError.TheVariants.{NotADatabase, BrokenAt, Fault, NoMemory}
-use Rattle.tk_model.specs.declared.error.OpenError.{OpenError}
+use Rattle.tk_model.specs.declared.error.OpenError.TheVariants.{BrokenAt}
 use Rattle.tk_block.specs.Layout.{Placed, link_of}
 use Rattle.tk_block.specs.Number.{u64_in}
 use Rattle.tk_append.specs.declared.walker.FoundBlock.{FoundBlock}
@@ -13,16 +11,15 @@ use Rattle.tk_append.specs.declared.walker.Walker.{Walker}
 use Rattle.tk_model.specs.Records.{after, after_one}
 use Rattle.tk_model.specs.declared.record.Order.TheVariants.{Hash}
 use Rattle.tk_model.specs.declared.record.Pair.{Pair}
-use Rattle.tk_model.specs.declared.record.Change.{Change}
 use Rattle.std.proofs.lemmas.Bool.Decides.{nat_tests}
 use Rattle.tk_model.specs.declared.record.ShardOf.{ShardOf}
 use Rattle.tk_block.specs.declared.block.Body.{Body}
 use Rattle.tk_block.specs.declared.head.StaticHead.{StaticHead}
-use Rattle.tk_block.specs.Text.{head_at, base_of}
+use Rattle.tk_block.specs.Text.{head_at}
 use Rattle.tk_block.proofs.Bodies.{two_true}
 use Rattle.tk_block.proofs.BodyGrammar.{bodies}
 use Rattle.tk_block.specs.Blocks.{said, extent_of, body_at, check_in, is_body}
-use Rattle.tk_append.specs.Opening.{Walk, Outcome, FailsAt, Ends, begin, walk, walk_on, walk_block, walked, may_stand, is_padded, is_in_turn, is_home, change_in, records_in, opened_by}
+use Rattle.tk_append.specs.Opening.{Walk, Outcome, FailsAt, Ends, walk_on, walk_block, walked, may_stand, is_padded, is_in_turn, is_home, change_in, records_in, opened_by}
 use Rattle.tk_append.specs.Keys.{HasKeys}
 use Rattle.tk_append.specs.Walked.{HasNone, HasBlock, MayFollow, Fails, IsAt, NewestIn, IsOfKind, Passed, least_behind, as_open}
 

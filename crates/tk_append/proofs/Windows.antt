@@ -1,10 +1,10 @@
 -- The bytes of a window, after a read behind its end or a step of its start, and what a disk shows.
-use Rattle.std.proofs.Common.{◌≡◌, ℕ, ◌+◌, ◌-◌, ◌<◌, ◌≤◌, ◌⊎◌, inl, inr, List, [], ◌++◌, length, take, drop, slice_range, refl, sym, ap, subst, ◌∙◌, arith, append_assoc}
-use Rattle.std.specs.Prelude.{◌^◌, Bool, true, false, min, nat_le, Option, Some, None, IfSome, Result, Ok, Err, OnOk}
+use Rattle.std.proofs.Common.{◌≡◌, ℕ, ◌+◌, ◌-◌, ◌<◌, ◌≤◌, inl, inr, List, [], ◌++◌, length, take, drop, slice_range, refl, sym, ap, subst, ◌∙◌, arith, append_assoc}
+use Rattle.std.specs.Prelude.{Bool, true, false, min, nat_le, Option, Some, None, IfSome, Result, Ok, Err, OnOk}
 use Rattle.std.specs.Int.{w64, from_be_bytes}
 use Rattle.std.specs.Io.{StartsWith}
-use Rattle.std.proofs.lemmas.List.{append-nil, take_at, drop_at, take-append-le, drop-append-le, drop-take, drop-drop, length-take-le, length-take, length-drop, length-append, take-append-drop}
-use Rattle.std.proofs.Math.Seq.{take-add, take-append_seam, drop-append_seam, take-length}
+use Rattle.std.proofs.lemmas.List.{take_at, drop_at, take-append-le, drop-append-le, drop-take, drop-drop, length-take-le, length-take, length-drop, length-append, take-append-drop}
+use Rattle.std.proofs.Math.Seq.{take-add, take-append_seam, drop-append_seam}
 use borrow.Rule.Slice.PartMut.{put_mid, post_of}
 use Rattle.std.proofs.lemmas.Bool.{leb-true}
 use Rattle.std.proofs.lemmas.Bool.Decides.{nat_tests}

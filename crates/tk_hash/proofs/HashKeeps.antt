@@ -1,13 +1,12 @@
 -- A hash store that stands for groups goes on to stand for them.
-use Rattle.std.proofs.Common.{◌≡◌, ◌⊎◌, inl, inr, ℕ, ◌+◌, ◌<◌, ◌≤◌, ◌^◌, Bool, true, false, List, [], ◌∷◌, ◌++◌, length, take, drop, refl, sym, ◌∙◌, ap, subst, arith}
+use Rattle.std.proofs.Common.{◌≡◌, inl, inr, ℕ, ◌≤◌, Bool, true, false, List, [], ◌++◌, length, take, refl, sym, ◌∙◌, ap, subst, arith}
 use Rattle.std.specs.Prelude.{Option, Some, None, IfSome, Result, Ok, Err, OnOk, OnErr, if◌then◌else◌}
 use Rattle.std.specs.Option.{option_map, is_some}
 use Rattle.std.proofs.lemmas.Option.{IfSome_then}
 use Rattle.std.specs.Vec.{with_items}
 use Rattle.std.specs.declared.vec.Vec.{Vec}
-use Rattle.tk_disk.specs.Crash.{Within, Only}
+use Rattle.tk_disk.specs.Crash.{Within}
 use Rattle.tk_model.specs.declared.record.Order.TheVariants.{Hash}
-use Rattle.tk_model.specs.declared.record.Pair.{Pair}
 use Rattle.tk_model.specs.declared.record.Group.{Group}
 use Rattle.tk_model.specs.Records.{replay}
 use Rattle.tk_disk.specs.declared.disk.DiskError.{DiskError}
@@ -15,15 +14,13 @@ use Rattle.tk_store.specs.declared.error.StoreError.{StoreError}
 use Rattle.tk_store.specs.declared.error.StoreError.TheVariants as errors
 use Rattle.tk_store.specs.Store.{First, IsWhole}
 use Rattle.tk_block.specs.declared.head.StaticHead.{StaticHead}
-use Rattle.tk_block.specs.Text.{is_static}
-use Rattle.tk_append.specs.Log.{AreGroups}
 use Rattle.tk_append.specs.LogParts.{log_disk, log_head, log_end}
 use Rattle.tk_append.specs.FileText.{IsFile}
 use Rattle.tk_append.specs.Read.{OnlyReads}
 use Rattle.tk_append.specs.Restored.{groups_in, IsKept}
 use Rattle.tk_append.proofs.Restoring.{reads_back}
 use Rattle.tk_hash.specs.Seek.{IsShelf}
-use Rattle.tk_hash.specs.Hash.{groups_held, floor_of, KeepsGroups, map_in, HashStands, HashSafe, HashStood}
+use Rattle.tk_hash.specs.Hash.{groups_held, KeepsGroups, map_in, HashStands, HashSafe, HashStood}
 use Rattle.tk_hash.specs.HashLaws.{mapped, is_file, kept_held, records_are, kept_front, kept_each, hash_safe_less}
 use Rattle.tk_hash.specs.declared.store.HashStore.{HashStore}
 use Rattle.tk_hash.specs.declared.shelf.Shelf.{Shelf}

@@ -1,5 +1,5 @@
 -- A hash file as a store.
-use Rattle.std.specs.Prelude.{◌≡◌, ◌≢◌, ◌⊎◌, ℕ, ◌+◌, ◌<◌, ◌≤◌, ◌^◌, min, true, false, List, [], ◌∷◌, ◌++◌, length, take, MatchOption, Option, Some, None, IfSome}
+use Rattle.std.specs.Prelude.{◌≡◌, ◌≢◌, ◌⊎◌, ℕ, ◌+◌, ◌<◌, ◌≤◌, ◌^◌, min, true, false, List, [], ◌++◌, length, take, MatchOption, Option, Some, None, IfSome}
 use Rattle.std.specs.Option.{option_map}
 use Rattle.tk_model.specs.Records.{after, replay, AllFit, IsClearAlone}
 use Rattle.tk_model.specs.declared.record.Order.TheVariants.{Hash}
@@ -8,7 +8,7 @@ use Rattle.tk_model.specs.declared.record.Change.{Change}
 use Rattle.tk_store.specs.Store.{Nature, Shown, First, Held, Groups, Blocks, Pages, Records, floor_after, extents_need}
 use Rattle.tk_block.specs.Text.{static_text, base_of, is_static}
 use Rattle.tk_block.specs.Blocks.{group_bodies}
-use Rattle.tk_block.specs.Layout.{Placed, laid, links_of, end_of, bodies_of}
+use Rattle.tk_block.specs.Layout.{laid, links_of, end_of, bodies_of}
 use Rattle.tk_block.specs.declared.closing.Closing.{Closing}
 use Rattle.tk_block.specs.declared.head.StaticHead.{StaticHead}
 use Rattle.tk_append.specs.Chains.{HeadsAre}

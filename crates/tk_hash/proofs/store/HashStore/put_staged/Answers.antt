@@ -1,11 +1,6 @@
-use Rattle.std.proofs.Common.{rules, ◌≡◌, ◌+◌, ◌*◌, ◌<◌, ◌≤◌, ◌^◌, ◌++◌, ℕ, List, length, take, inl, inr, refl, sym, ◌∙◌, ap, subst, arith}
-use Rattle.std.specs.Prelude.{Option, Some}
-use Rattle.std.specs.Option.{option_map}
-use Rattle.tk_model.specs.declared.record.Group.{Group}
-use Rattle.tk_block.specs.declared.head.StaticHead.{StaticHead}
+use Rattle.std.proofs.Common.{rules, refl, ◌∙◌, arith}
 use Rattle.tk_block.specs.Text.{base_of}
 use Rattle.tk_append.specs.LogParts.{log_disk, log_head, log_end}
-use Rattle.tk_hash.specs.Hash.{groups_held}
 use Rattle.tk_hash.proofs.Extents.{ends_sum}
 use Rattle.tk_hash.proofs.HashKeeps.{done}
 use Rattle.tk_hash.proofs.HashGrows.{grown, appended_keeps, put_keeps, length_there, base_within, still_there, puts_done}

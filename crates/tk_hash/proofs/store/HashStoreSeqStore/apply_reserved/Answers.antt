@@ -1,9 +1,9 @@
-use Rattle.std.proofs.Common.{◌≡◌, ◌+◌, ◌≤◌, ◌∷◌, ◌++◌, ℕ, List, [], take, refl, sym, ◌∙◌, ap, subst, arith}
-use Rattle.std.specs.Prelude.{Option, Some, OnOk, sum_by}
+use Rattle.std.proofs.Common.{◌≡◌, ◌+◌, ◌∷◌, ◌++◌, ℕ, List, [], take, sym, ◌∙◌, ap, subst, arith}
+use Rattle.std.specs.Prelude.{Some, OnOk, sum_by}
 use Rattle.std.proofs.lemmas.Result.{on_ok_weaker}
 use Rattle.tk_model.specs.declared.record.Group.{Group}
 use Rattle.tk_model.specs.declared.record.Change.{Change}
-use Rattle.tk_store.specs.Store.{Nature, First, made, extent_of, extents_need}
+use Rattle.tk_store.specs.Store.{Nature, First, made, extent_of}
 use Rattle.tk_append.specs.LogParts.{log_disk, log_head, log_end}
 use Rattle.tk_hash.specs.Hash.{hash_nature, groups_held, IsStaged, HashPrepared, HashStands, KeepsGroups}
 use Rattle.tk_hash.proofs.HashKeeps.{stood_as, safe_as}
