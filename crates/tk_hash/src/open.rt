@@ -98,6 +98,8 @@ impl<D: Disk> HashStore<D> {
         ensures limit { IfOk result (λ s. (hash_nature s).limit ≡ min limit (2 ^ 40)) }
         ensures last { IfOk result (λ s. writable ≡ true → (hash_nature s).next ≤ 2 ^ 62) }
         ensures reads { IfOk result (λ s. writable ≡ false → D.image (hash_disk s) ≡ D.image disk) }
+        ensures marked { writable ≡ true → IfOk result (λ s. D.image (hash_disk s) ≡ option_map (with_closing open_mark) (D.image disk)) }
+        ensures durable { writable ≡ true → IfOk result (λ s. IfSome (D.image (hash_disk s)) (λ f. Only f (D.may_leave (hash_disk s)))) }
         ensures told { IfOk result (λ s. is_some (D.image (hash_disk s)) ≡ is_some (D.image disk)) }
         ensures back { IfErr result (λ u. (u.cause ≡ OpenError.Fault → ⊥) → D.image u.disk ≡ D.image disk) }
         ensures back_reads { writable ≡ false → IfErr result (λ u. D.image u.disk ≡ D.image disk) }
@@ -133,6 +135,8 @@ impl<D: Disk> HashStore<D> {
         ensures next { IfOk result (λ s. (hash_nature s).next ≡ 0) }
         ensures limit { IfOk result (λ s. (hash_nature s).limit ≡ min limit (2 ^ 40)) }
         ensures told { IfOk result (λ s. is_some (D.image (hash_disk s)) ≡ is_some (D.image disk)) }
+        ensures durable { IfOk result (λ s. IfSome (D.image (hash_disk s)) (λ f. Only f (D.may_leave (hash_disk s)))) }
+        ensures marked { IfOk result (λ s. IfSome (D.image (hash_disk s)) (λ f. f ≡ with_closing open_mark (closed_text (hash_head s) [] 0))) }
         ensures only { IfErr result (λ u. IsOutside u.cause) }
         ensures kept { IfOk result (λ s. D.fault_count (hash_disk s) ≡ D.fault_count disk) }
         ensures fault { IfErr result (λ u. u.cause ≡ OpenError.Fault → Rose (D.fault_count disk) (D.fault_count u.disk)) }
@@ -176,6 +180,8 @@ impl<D: Disk> HashStore<D> {
         ensures next { IfOk result (λ s. (hash_nature s).next ≡ closing.next) }
         ensures limit { IfOk result (λ s. (hash_nature s).limit ≡ min limit (2 ^ 40)) }
         ensures reads { IfOk result (λ s. writable ≡ false → D.image (hash_disk s) ≡ D.image (log_disk log)) }
+        ensures marked { writable ≡ true → IfOk result (λ s. D.image (hash_disk s) ≡ option_map (with_closing open_mark) (D.image (log_disk log))) }
+        ensures durable { writable ≡ true → IfOk result (λ s. IfSome (D.image (hash_disk s)) (λ f. Only f (D.may_leave (hash_disk s)))) }
         ensures told { IfOk result (λ s. is_some (D.image (hash_disk s)) ≡ is_some (D.image (log_disk log))) }
         ensures back { IfErr result (λ u. (u.cause ≡ OpenError.Fault → ⊥) → D.image u.disk ≡ D.image (log_disk log)) }
         ensures back_reads { writable ≡ false → IfErr result (λ u. D.image u.disk ≡ D.image (log_disk log)) }
