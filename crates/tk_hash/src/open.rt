@@ -1,6 +1,6 @@
 ghost use Rattle.std.specs.Prelude.{◌≡◌, ◌+◌, ◌≤◌, ◌<◌, ◌^◌, ◌∷◌, [], ℕ, List, length, min, true, false, IfOk, IfErr, IsOk, OnOk, IfSome, Some};
 ghost use Rattle.std.specs.Option.{is_some, option_map};
-ghost use Rattle.tk_disk.specs.Crash.{Torn, Only, LeavesOnly};
+ghost use Rattle.tk_disk.specs.Crash.{Torn, Within, Only, LeavesOnly};
 ghost use Rattle.tk_disk.specs.Disk.{Rose, HasCause};
 ghost use Rattle.tk_model.specs.declared.record.Group.{Group};
 ghost use Rattle.tk_model.specs.declared.error.OpenError.TheVariants as OpenError;
@@ -57,6 +57,7 @@ fn begin<D: Disk>(
     ensures head { log_head log.new ≡ log_head log.old }
     ensures end { log_end log.new ≡ log_end log.old }
     ensures reads { writable ≡ false → D.image (log_disk log.new) ≡ D.image (log_disk log.old) }
+    ensures crash_reads { writable ≡ false → Within (D.may_leave (log_disk log.old)) (D.may_leave (log_disk log.new)) }
     ensures same { writable ≡ false → IfOk result (λ c. c ≡ closing) }
     ensures open { writable ≡ true → IfOk result (λ c. c ≡ open_mark) }
     ensures marked { writable ≡ true → OnOk result (D.image (log_disk log.new) ≡ option_map (with_closing open_mark) (D.image (log_disk log.old))) }
@@ -98,6 +99,7 @@ impl<D: Disk> HashStore<D> {
         ensures limit { IfOk result (λ s. (hash_nature s).limit ≡ min limit (2 ^ 40)) }
         ensures last { IfOk result (λ s. writable ≡ true → (hash_nature s).next ≤ 2 ^ 62) }
         ensures reads { IfOk result (λ s. writable ≡ false → D.image (hash_disk s) ≡ D.image disk) }
+        ensures crash_reads { writable ≡ false → IfOk result (λ s. Within (D.may_leave disk) (D.may_leave (hash_disk s))) }
         ensures marked { writable ≡ true → IfOk result (λ s. D.image (hash_disk s) ≡ option_map (with_closing open_mark) (D.image disk)) }
         ensures durable { writable ≡ true → IfOk result (λ s. IfSome (D.image (hash_disk s)) (λ f. Only f (D.may_leave (hash_disk s)))) }
         ensures told { IfOk result (λ s. is_some (D.image (hash_disk s)) ≡ is_some (D.image disk)) }
@@ -180,6 +182,7 @@ impl<D: Disk> HashStore<D> {
         ensures next { IfOk result (λ s. (hash_nature s).next ≡ closing.next) }
         ensures limit { IfOk result (λ s. (hash_nature s).limit ≡ min limit (2 ^ 40)) }
         ensures reads { IfOk result (λ s. writable ≡ false → D.image (hash_disk s) ≡ D.image (log_disk log)) }
+        ensures crash_reads { writable ≡ false → IfOk result (λ s. Within (D.may_leave (log_disk log)) (D.may_leave (hash_disk s))) }
         ensures marked { writable ≡ true → IfOk result (λ s. D.image (hash_disk s) ≡ option_map (with_closing open_mark) (D.image (log_disk log))) }
         ensures durable { writable ≡ true → IfOk result (λ s. IfSome (D.image (hash_disk s)) (λ f. Only f (D.may_leave (hash_disk s)))) }
         ensures told { IfOk result (λ s. is_some (D.image (hash_disk s)) ≡ is_some (D.image (log_disk log))) }
