@@ -1,15 +1,12 @@
 pub mod BlockFronts
-pub mod Bounds
 pub mod ChainsSteps
 pub mod Checked
 pub mod ClosedFiles
 pub mod DiskChecks
-pub mod Elapsed
 pub mod FreshSteps
 pub mod Fronts
 pub mod Groupings
 pub mod HeadSteps
-pub mod Joined
 pub mod KeySteps
 pub mod Layouts
 pub mod LogSteps

@@ -21,7 +21,7 @@ use Rattle.tk_block.proofs.Lengths.{room_fits, length-texts, length-heads_text}
 use Rattle.tk_block.proofs.Layouts.{laid-append, end_of-append, links_of-append, length-links_of, length-laid, texts-append-both, bodies_of-append, length-group_bodies}
 use Rattle.tk_append.specs.Log.{AreGroups, blocks_of}
 use Rattle.tk_append.specs.Opening.{Walk, begin, walked, opened_by, is_in_turn, change_in}
-use Rattle.tk_append.specs.Restored.{may_be_read, read_block, read_on, read_blocks, complete_groups, groups_in, groups_by, restored_groups, IsWhole, AllWhole, groups_text}
+use Rattle.tk_append.specs.Restored.{may_be_read, read_block, read_on, read_blocks, complete_groups, groups_in, groups_by, restored_groups, IsUntornAt, AllUntorn, groups_text}
 use Rattle.tk_append.specs.FileText.{text_of}
 use Rattle.tk_append.specs.RestoringLaws.{ReadsBack, Restores, TornKeeps, FilesKeep, FrontsKept, FilesUntorn}
 use Rattle.tk_append.proofs.ClosedFiles.{change_back}
@@ -75,7 +75,7 @@ further true w v x xs f = record { count = suc f.count; upto = omega (arith, f.u
 further false w v x xs f = stop w (x ∷ xs)
 
 front_on : (o : Option ℕ) (ob : Option Body) (n : ℕ) (w : Walk) (place : ℕ) (b : Body) (xs : List Placed) (c : List ℕ) → head_at (drop place c) place ≡ o → body_at (drop 24 (drop place c)) place ≡ ob
-    → IsWhole (record { place = place; body = b }) c → ((v : Walk) → Fronted v xs (read_on n v (place + extent_of b) (drop (place + extent_of b) c)))
+    → IsUntornAt (record { place = place; body = b }) c → ((v : Walk) → Fronted v xs (read_on n v (place + extent_of b) (drop (place + extent_of b) c)))
     → Fronted w (record { place = place; body = b } ∷ xs) (read_block w place o ob (λ v k. read_on n v (place + k) (drop k (drop place c))))
 front_on None ob n w place b xs c head body whole rest = stop w _
 front_on (Some e) None n w place b xs c head body whole rest = stop w _
@@ -87,7 +87,7 @@ front_on (Some e) (Some d) n w place b xs c head body whole rest =
     (sym (whole.says d (ap (λ (l : List ℕ). body_at l place) (sym (drop-drop 24 place c)) ∙ body))) at_body
 
 -- where a head or a body counts only as that of its block, a front of the blocks is read
-read_front : (n : ℕ) (w : Walk) (place : ℕ) (bs : List Body) (c : List ℕ) → AllWhole (laid place bs) c → head_at (drop (end_of place bs) c) (end_of place bs) ≡ None
+read_front : (n : ℕ) (w : Walk) (place : ℕ) (bs : List Body) (c : List ℕ) → AllUntorn (laid place bs) c → head_at (drop (end_of place bs) c) (end_of place bs) ≡ None
     → Fronted w (laid place bs) (read_on n w place (drop place c))
 read_front zero w place bs c whole none = stop w _
 read_front (suc n) w place [] c whole none =
@@ -229,7 +229,7 @@ groups_back : (lo next : ℕ) (gs more : List Group) → AreGroups lo next (gs +
 groups_back lo next [] more legal = (lo, legal)
 groups_back lo next (g ∷ gs) more legal = groups_back (g.number + 1) next gs more legal.4
 
-whole_back : (xs ys : List Placed) (c : List ℕ) → AllWhole (xs ++ ys) c → AllWhole ys c
+whole_back : (xs ys : List Placed) (c : List ℕ) → AllUntorn (xs ++ ys) c → AllUntorn ys c
 whole_back [] ys c whole = whole
 whole_back (x ∷ xs) ys c whole = whole_back xs ys c whole.1
 
@@ -252,7 +252,7 @@ restores h groups more next c static small legal upto kept untorn =
     let rest : drop (length text) (drop base c) ≡ drop end c = drop-drop (length text) base c ∙ ap (λ (k : ℕ). drop k c) (length-texts base (bodies_of groups) (links_of h.p [] (blocks_of h groups))) in
     let first = groups_front 0 next groups more legal in
     let last = groups_back 0 next groups more legal in
-    let whole : AllWhole (laid end (bodies_of more)) c = whole_back (blocks_of h groups) _ c (subst (λ (l : List Placed). AllWhole l c) (blocks_behind h groups more) untorn.blocks) in
+    let whole : AllUntorn (laid end (bodies_of more)) c = whole_back (blocks_of h groups) _ c (subst (λ (l : List Placed). AllUntorn l c) (blocks_behind h groups more) untorn.blocks) in
     let none : head_at (drop (end_of end (bodies_of more)) c) (end_of end (bodies_of more)) ≡ None = subst (λ (k : ℕ). head_at (drop k c) k ≡ None) (end_behind base groups more) untorn.no_head in
     let front = read_front fuel w end (bodies_of more) c whole none in
     let found_groups = front_groups last.0 next end front.count more last.1 in (
@@ -332,7 +332,7 @@ same_body a b is = cc is
 
 -- where the text of bodies stands, each is whole
 texts_whole : (next : ℕ) (h : StaticHead) (shard : ShardOf) (least : ℕ) (open_group : Option Placed) (place : ℕ) (bs : List Body) (links rest c : List ℕ) → drop place c ≡ texts (laid place bs) links ++ rest
-    → Fit next h shard least open_group place bs → AllWhole (laid place bs) c
+    → Fit next h shard least open_group place bs → AllUntorn (laid place bs) c
 texts_whole next h shard least open_group place [] links rest c is fit = tt
 texts_whole next h shard least open_group place (b ∷ bs) links rest c is fit =
     let link = first_or_none links in

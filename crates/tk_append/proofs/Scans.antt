@@ -10,7 +10,6 @@ use Rattle.tk_model.specs.declared.error.OpenError.TheVariants.{NotADatabase, Br
 use Rattle.tk_block.specs.Text.{base_of}
 use Rattle.tk_block.specs.declared.head.StaticHead.{StaticHead}
 use Rattle.tk_append.specs.Opening.{Walk, begin, walk, walk_on, walked}
-use Rattle.tk_append.specs.Read.{OnlyReads}
 use Rattle.tk_append.specs.Walked.{Fails, HoldsBlock, IsAt, Passed, Shows, WalkedAll, WalkFails}
 use Rattle.tk_append.specs.declared.walker.Walker.{Walker}
 use Rattle.tk_append.proofs.WalkerSteps.{goes_on, walk_next, walk_end}
@@ -160,29 +159,3 @@ handed (Ok x) cause P None size is holds = tt
 handed (Ok x) cause P (Some f) size is holds = λ long. tt
 handed (Err e) cause P None size is holds = tt
 handed (Err e) cause P (Some f) size is holds = λ long. subst (P f) (sym is) (holds long)
-
--- ---- readings one after the other
-
-pub reads_same : {D : Type 0} (may_leave : D → List ℕ → Type 0) (moment : D → ℕ) (left_since : D → ℕ → List ℕ → Type 0) (a : D) → OnlyReads may_leave moment left_since a a
-reads_same may_leave moment left_since a = record {
-  crash = λ c left. left;
-  time = record { later = omega arith; nothing_else = λ t c le since. inl since; keeps = λ t c le past. past };
-}
-
-either : (P Q R : Type 0) → P ⊎ Q → (P → R) → (Q → R) → R
-either P Q R (inl p) f g = f p
-either P Q R (inr q) f g = g q
-
-pub reads_on : {D : Type 0} (may_leave : D → List ℕ → Type 0) (moment : D → ℕ) (left_since : D → ℕ → List ℕ → Type 0) (a b c : D) → ((disk : D) (t : ℕ) (x : List ℕ) → t ≤ moment disk → may_leave disk x → left_since disk t x)
-    → OnlyReads may_leave moment left_since a b → OnlyReads may_leave moment left_since b c → OnlyReads may_leave moment left_since a c
-reads_on may_leave moment left_since a b c counts first then = record {
-  crash = λ x left. first.crash x (then.crash x left);
-  time = record {
-    later = omega (arith, first.time.later, then.time.later);
-    nothing_else = λ t x le since.
-        either (left_since b t x) (may_leave c x) (left_since a t x ⊎ may_leave c x) (then.time.nothing_else t x (omega (arith, le, first.time.later)) since)
-        (λ past. inl (either (left_since a t x) (may_leave b x) (left_since a t x) (first.time.nothing_else t x le past) (λ p. p) (λ q. counts a t x le (first.crash x q))))
-        (λ left. inr left);
-    keeps = λ t x le past. then.time.keeps t x (omega (arith, le, first.time.later)) (first.time.keeps t x le past);
-  };
-}

@@ -3,7 +3,6 @@ pub mod Checked
 pub mod FileText
 pub mod Counted
 pub mod Fresh
-pub mod Hashed
 pub mod Keys
 pub mod Log
 pub mod LogParts

@@ -1,6 +1,5 @@
 -- What the reading of a whole file answers.
 use Rattle.std.specs.Prelude.{◌≡◌, ℕ, ◌≤◌, Bool, List, Option, None, IfSome, Result, Ok, Err, OnOk, IsErrOf}
-use Rattle.tk_disk.specs.Crash.{Within, Elapses}
 use Rattle.tk_disk.specs.Disk.{Rose}
 use Rattle.tk_model.specs.declared.record.ShardOf.{ShardOf}
 use Rattle.tk_model.specs.declared.error.OpenError.{OpenError}
@@ -32,8 +31,3 @@ pub record IsClosedOn (image : Option (List ℕ)) (kinds : List ℕ) (writable :
   pub bytes : List ℕ
   pub closed : IsClosed kinds writable shard bytes found
   pub told : IfSome image (λ f. f ≡ bytes)
-
--- a crash leaves nothing that it didn't before the reading, and time goes on
-pub record OnlyReads {D : Type 0} (may_leave : D → List ℕ → Type 0) (moment : D → ℕ) (left_since : D → ℕ → List ℕ → Type 0) (old new : D) : Type 0 where
-  pub crash : Within (may_leave old) (may_leave new)
-  pub time : Elapses (moment old) (moment new) (left_since old) (left_since new) (may_leave new)

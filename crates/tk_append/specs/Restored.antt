@@ -50,18 +50,18 @@ unfoldable pub restored_groups : List ℕ → List Group
 restored_groups f = groups_by f (static_at f)
 
 -- at the place of a block a head whose check matches is the block's, and so is a body
-pub record IsWhole (x : Placed) (c : List ℕ) : Type 0 where
+pub record IsUntornAt (x : Placed) (c : List ℕ) : Type 0 where
   pub head : (e : ℕ) → head_at (drop x.place c) x.place ≡ Some e → e ≡ extent_of x.body
   pub says : (b : Body) → body_at (drop (x.place + 24) c) x.place ≡ Some b → b ≡ x.body
 
-abbrev pub AllWhole : List Placed → List ℕ → Type 0
-AllWhole [] c = Unit {0}
-AllWhole (x ∷ xs) c = IsWhole x c × AllWhole xs c
+abbrev pub AllUntorn : List Placed → List ℕ → Type 0
+AllUntorn [] c = Unit {0}
+AllUntorn (x ∷ xs) c = IsUntornAt x c × AllUntorn xs c
 
 -- An image of a file of these groups is untorn: where a block stood or was written, a head or a body whose check matches
 -- is that block's, and where the file ended there is none.
 pub record IsUntorn (h : StaticHead) (groups : List Group) (c : List ℕ) : Type 0 where
-  pub blocks : AllWhole (blocks_of h groups) c
+  pub blocks : AllUntorn (blocks_of h groups) c
   pub no_head : head_at (drop (end_of (base_of h.p) (bodies_of groups)) c) (end_of (base_of h.p) (bodies_of groups)) ≡ None
   pub no_body : body_at (drop (end_of (base_of h.p) (bodies_of groups) + 24) c) (end_of (base_of h.p) (bodies_of groups)) ≡ None
 

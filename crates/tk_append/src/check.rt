@@ -1,6 +1,7 @@
 ghost use Rattle.std.specs.Prelude.{◌≡◌, ◌≤◌, ◌<◌, ◌^◌, ◌+◌, ◌*◌, ◌==◌, ℕ, Bool, List, length, take, drop, None, Some, IfOk, IfErr, IsErrOf, IfSome, OnOk, slice_index};
 ghost use Rattle.std.specs.List.{list_any};
 ghost use Rattle.std.specs.Io.{StartsWith};
+ghost use Rattle.tk_disk.specs.Crash.{OnlyReads};
 ghost use Rattle.tk_model.specs.declared.record.ShardOf.{ShardOf as Shard};
 ghost use Rattle.tk_model.specs.declared.error.OpenError.TheVariants as OpenError;
 ghost use Rattle.tk_block.specs.Text.{closing_at, static_at, base_of};
@@ -9,7 +10,7 @@ ghost use Rattle.tk_append.specs.Opening.{Walk, Ends, records_in, first_fault, c
 ghost use Rattle.tk_append.specs.Log.{TellsCause};
 ghost use Rattle.tk_append.specs.Walked.{IsAt, NewestIn, Shows, live_head, least_behind};
 ghost use Rattle.tk_append.specs.Checked.{Finds, FindsCause, HeadIn, ClosingIn, IsFront, HasHeads};
-ghost use Rattle.tk_append.specs.Read.{IsOutside, HasOpenCause, IsClosedOn, OnlyReads, TellsResult};
+ghost use Rattle.tk_append.specs.Read.{IsOutside, HasOpenCause, IsClosedOn, TellsResult};
 
 use crate::heads::head_fault;
 use crate::scan::walk_file;

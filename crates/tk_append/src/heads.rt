@@ -1,29 +1,21 @@
 //! The heads of a file's buckets, beside those that its blocks give.
 ghost use Rattle.std.specs.Prelude.{◌≡◌, ◌≤◌, ◌<◌, ◌^◌, ◌+◌, ◌-◌, ◌*◌, ℕ, List, length, drop, slice_index, IfOk, IfErr, IfSome, MatchOption, Some};
 ghost use Rattle.std.specs.Io.{StartsWith};
+ghost use Rattle.tk_disk.specs.Crash.{OnlyReads};
 ghost use Rattle.tk_block.specs.Layout.{Placed};
 ghost use Rattle.tk_append.specs.Opening.{head_fault};
 ghost use Rattle.tk_append.specs.Chains.{HeadsAre};
-ghost use Rattle.tk_append.specs.Read.{IsOutside, HasOpenCause, OnlyReads};
+ghost use Rattle.tk_append.specs.Read.{IsOutside, HasOpenCause};
 ghost use Rattle.tk_append.specs.Checked.{HeadsStand, HeadFails};
 
 use crate::window::read_piece;
 use std::alloc::Global;
 use tk_block::u64_at;
-use tk_disk::Disk;
-use tk_model::{NoMemory, OpenError};
+use tk_disk::{Disk, zeros};
+use tk_model::OpenError;
 
 /// So many heads are read at once.
 const PIECE: usize = 1 << 17;
-
-/// So many zero bytes.
-fn zeros(alloc: Global, len: usize) -> Result<Vec<u8>, NoMemory>
-    ensures { IfOk result (λ b. length b.items ≡ len) }
-{
-    let mut bytes = Vec::new(alloc);
-    bytes.resize(len, 0)?;
-    Ok(bytes)
-}
 
 /// The place of the first of so many heads that is not this one, by their bytes.
 fn head_fault_in(bytes: &[u8], heads: &[u64], first: usize, count: usize) -> Option<u64>

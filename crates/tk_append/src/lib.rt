@@ -6,7 +6,6 @@ mod chains;
 mod check;
 mod extent;
 mod fresh;
-mod hashed;
 mod heads;
 mod keys;
 mod law;
@@ -21,7 +20,6 @@ mod window;
 
 pub use extent::extent_of_change;
 pub use fresh::write_fresh;
-pub use hashed::HashedRecords;
 pub use law::{closed_files_open, images_restore};
 pub use log::GroupLog;
 pub use open::{check_all, open_log};

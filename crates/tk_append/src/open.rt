@@ -3,13 +3,13 @@ ghost use Rattle.std.specs.List.{list_any};
 ghost use Rattle.std.specs.Option.{is_some, option_map};
 ghost use Rattle.tk_model.specs.declared.record.Group.{Group};
 ghost use Rattle.tk_model.specs.declared.error.OpenError.TheVariants as OpenError;
-ghost use Rattle.tk_disk.specs.Crash.{Torn, Follows, Within, Only, LeavesOnly};
+ghost use Rattle.tk_disk.specs.Crash.{Torn, Follows, Within, Only, LeavesOnly, OnlyReads};
 ghost use Rattle.tk_disk.specs.Disk.{Rose, HasCause};
 ghost use Rattle.tk_block.specs.Text.{static_at};
 ghost use Rattle.tk_append.specs.Opening.{first_fault};
 ghost use Rattle.tk_append.specs.Log.{Tells};
 ghost use Rattle.tk_append.specs.LogParts.{log_disk, log_head, with_closing, open_mark, Stands};
-ghost use Rattle.tk_append.specs.Read.{HasOpenCause, OnlyReads, TellsResult};
+ghost use Rattle.tk_append.specs.Read.{HasOpenCause, TellsResult};
 ghost use Rattle.tk_append.specs.Opened.{HasOpened};
 
 use crate::check::check_disk;

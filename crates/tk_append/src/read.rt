@@ -1,11 +1,11 @@
 ghost use Rattle.std.specs.Prelude.{◌≡◌, ◌≤◌, ◌<◌, ◌^◌, ◌==◌, true, IfOk, IfErr, IfSome};
 ghost use Rattle.std.specs.List.{list_any};
+ghost use Rattle.tk_disk.specs.Crash.{OnlyReads};
 ghost use Rattle.tk_model.specs.declared.error.OpenError.TheVariants as OpenError;
 ghost use Rattle.tk_disk.specs.Disk.{Rose};
 ghost use Rattle.tk_append.specs.Opening.{first_fault};
 ghost use Rattle.tk_append.specs.Log.{Tells};
 ghost use Rattle.tk_append.specs.LogParts.{log_disk, log_head};
-ghost use Rattle.tk_append.specs.Read.{OnlyReads};
 ghost use Rattle.tk_append.specs.Counted.{HasCounted};
 
 use crate::check::check_disk;

@@ -1,7 +1,8 @@
 //! The walk over the blocks of a file, which is read in pieces.
 ghost use Rattle.std.specs.Prelude.{◌≡◌, ◌≤◌, ◌<◌, ◌^◌, length, IfOk, IfErr, IfSome};
+ghost use Rattle.tk_disk.specs.Crash.{OnlyReads};
 ghost use Rattle.tk_block.specs.Text.{base_of};
-ghost use Rattle.tk_append.specs.Read.{HasOpenCause, OnlyReads};
+ghost use Rattle.tk_append.specs.Read.{HasOpenCause};
 ghost use Rattle.tk_append.specs.Walked.{WalkedAll, WalkFails};
 
 use crate::walker::Walker;

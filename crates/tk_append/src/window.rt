@@ -1,7 +1,8 @@
 //! The part of a file that was read and isn't passed yet.
 ghost use Rattle.std.specs.Prelude.{◌≡◌, ◌≤◌, ◌<◌, ◌^◌, ◌+◌, ◌-◌, ℕ, List, [], ◌++◌, length, drop, min, IfErr, IfSome, OnOk};
 ghost use Rattle.std.specs.Io.{StartsWith};
-ghost use Rattle.tk_append.specs.Read.{IsOutside, HasOpenCause, OnlyReads};
+ghost use Rattle.tk_disk.specs.Crash.{OnlyReads};
+ghost use Rattle.tk_append.specs.Read.{IsOutside, HasOpenCause};
 ghost use Rattle.tk_append.specs.Walked.{Shows, HoldsBlock};
 
 use std::alloc::Global;
@@ -44,7 +45,8 @@ pub(crate) struct Window {
 impl Window {
     ghost use Rattle.std.specs.Prelude.{◌≡◌, ◌≤◌, ◌<◌, ◌^◌, ◌+◌, ◌-◌, ℕ, List, [], ◌++◌, length, drop, min, IfErr, IfSome, OnOk};
     ghost use Rattle.std.specs.Io.{StartsWith};
-    ghost use Rattle.tk_append.specs.Read.{IsOutside, HasOpenCause, OnlyReads};
+    ghost use Rattle.tk_disk.specs.Crash.{OnlyReads};
+    ghost use Rattle.tk_append.specs.Read.{IsOutside, HasOpenCause};
     ghost use Rattle.tk_append.specs.Walked.{Shows, HoldsBlock};
     ghost use Rattle.tk_append.specs.Windows.{items, room};
 

@@ -7,6 +7,7 @@ mod read;
 
 pub use linking::{insert, unlink};
 pub use places::{PlaceList, chain};
+pub use read::number_at;
 
 #[cfg(test)]
 mod tests;

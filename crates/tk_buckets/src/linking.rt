@@ -1,7 +1,7 @@
 ghost use Rattle.std.specs.Prelude.{◌≡◌, ◌≢◌, ◌+◌, ◌*◌, ◌<◌, ◌≤◌, ◌^◌, ◌∷◌, ◌&&◌, ◌-◌, List, ℕ, length, true, nat_le, Some, None, IfOk, IfSome, OnOk, if◌then◌else◌};
 ghost use Rattle.std.specs.Option.{is_some, option_map};
 ghost use Rattle.std.specs.Int.{w64, to_be_bytes};
-ghost use Rattle.tk_disk.specs.Crash.{Torn, Follows, Within, Elapses, LeavesOnly};
+ghost use Rattle.tk_disk.specs.Crash.{Torn, Follows, OnlyReads, LeavesOnly};
 ghost use Rattle.tk_disk.specs.Disk.{put_at, HasCause};
 ghost use Rattle.tk_block.specs.Number.{u64_in};
 ghost use Rattle.tk_block.specs.Text.{base_of};
@@ -57,8 +57,7 @@ fn cell_of<D: Disk>(disk: &mut D, cell: u64, place: u64, len: u64) -> Result<Opt
     ensures fits { IfOk result (λ c. IfSome c (λ n. n + 8 ≤ 2 ^ 40)) }
     ensures image { D.image disk.new ≡ D.image disk.old }
     ensures cause { HasCause (D.fault_count disk.old) (D.fault_count disk.new) result }
-    ensures crash { Within (D.may_leave disk.old) (D.may_leave disk.new) }
-    ensures time { Elapses (D.moment disk.old) (D.moment disk.new) (D.left_since disk.old) (D.left_since disk.new) (D.may_leave disk.new) }
+    ensures still { OnlyReads D.may_leave D.moment D.left_since disk.old disk.new }
 {
     let mut at = cell;
     let mut next = number_at(disk, cell)?;

@@ -1,5 +1,5 @@
 ghost use Rattle.std.specs.Prelude.{◌≡◌, ◌+◌, ◌*◌, ◌<◌, ◌≤◌, ◌^◌, List, [], ℕ, length, IfOk, IfSome};
-ghost use Rattle.tk_disk.specs.Crash.{Within, Elapses};
+ghost use Rattle.tk_disk.specs.Crash.{OnlyReads};
 ghost use Rattle.tk_disk.specs.Disk.{HasFaultCause};
 ghost use Rattle.tk_store.specs.Store.{HasCause, NeverFull};
 ghost use Rattle.tk_block.specs.Number.{u64_in};
@@ -32,8 +32,7 @@ fn follow<D: Disk>(
     ensures taken { (h : StaticHead) (places : List ℕ) → IfSome (D.image disk.old) (λ f. IsLinked h f first places → D.taken_count disk.new ≤ D.taken_count disk.old + 8 * length places) }
     ensures more { D.taken_count disk.old ≤ D.taken_count disk.new }
     ensures cause { HasFaultCause (D.fault_count disk.old) (D.fault_count disk.new) result }
-    ensures crash { Within (D.may_leave disk.old) (D.may_leave disk.new) }
-    ensures time { Elapses (D.moment disk.old) (D.moment disk.new) (D.left_since disk.old) (D.left_since disk.new) (D.may_leave disk.new) }
+    ensures still { OnlyReads D.may_leave D.moment D.left_since disk.old disk.new }
 {
     let mut places = PlaceList::new(alloc);
     let mut next = first;
@@ -58,8 +57,7 @@ fn places_of<D: Disk>(
     ensures taken { (places : List ℕ) → IfSome (D.image disk.old) (λ f. IsChain head.now f bucket places → D.taken_count disk.new ≤ D.taken_count disk.old + 8 + 8 * length places) }
     ensures more { D.taken_count disk.old ≤ D.taken_count disk.new }
     ensures cause { HasFaultCause (D.fault_count disk.old) (D.fault_count disk.new) result }
-    ensures crash { Within (D.may_leave disk.old) (D.may_leave disk.new) }
-    ensures time { Elapses (D.moment disk.old) (D.moment disk.new) (D.left_since disk.old) (D.left_since disk.new) (D.may_leave disk.new) }
+    ensures still { OnlyReads D.may_leave D.moment D.left_since disk.old disk.new }
 {
     let len = disk.len()?;
     let first = number_at(disk, 64 + 8 * bucket)?;
@@ -84,8 +82,7 @@ pub fn chain<D: Disk>(
     ensures more { D.taken_count disk.old ≤ D.taken_count disk.new }
     ensures cause { HasCause (D.fault_count disk.old) (D.fault_count disk.new) result }
     ensures never_full { NeverFull result }
-    ensures crash { Within (D.may_leave disk.old) (D.may_leave disk.new) }
-    ensures time { Elapses (D.moment disk.old) (D.moment disk.new) (D.left_since disk.old) (D.left_since disk.new) (D.may_leave disk.new) }
+    ensures still { OnlyReads D.may_leave D.moment D.left_since disk.old disk.new }
 {
     match places_of(alloc, disk, head, bucket) {
         Ok(places) => Ok(places),

@@ -1,23 +1,21 @@
 ghost use Rattle.std.specs.Prelude.{◌≡◌, ◌+◌, ◌<◌, ◌≤◌, ◌^◌, length, IfOk, IfSome};
-ghost use Rattle.tk_disk.specs.Crash.{Within, Elapses};
+ghost use Rattle.tk_disk.specs.Crash.{OnlyReads};
 ghost use Rattle.tk_disk.specs.Disk.{HasCause};
 ghost use Rattle.tk_block.specs.Number.{u64_in};
 
 use tk_block::u64_at;
 use tk_disk::{Disk, DiskError};
 
-/// The number in the eight bytes at a place.
-pub(crate) fn number_at<D: Disk>(disk: &mut D, at: u64) -> Result<u64, DiskError>
+/// The number in the eight bytes at a place: a head or a link.
+pub fn number_at<D: Disk>(disk: &mut D, at: u64) -> Result<u64, DiskError>
     ensures value { IfSome (D.image disk.old) (λ f. at + 8 ≤ length f → IfOk result (λ n. n ≡ u64_in f at)) }
     ensures fits { IfOk result (λ n. n < 2 ^ 64) }
     ensures image { D.image disk.new ≡ D.image disk.old }
     ensures taken { D.taken_count disk.new ≤ D.taken_count disk.old + 8 }
     ensures more { D.taken_count disk.old ≤ D.taken_count disk.new }
     ensures cause { HasCause (D.fault_count disk.old) (D.fault_count disk.new) result }
-    ensures crash { Within (D.may_leave disk.old) (D.may_leave disk.new) }
-    ensures time { Elapses (D.moment disk.old) (D.moment disk.new) (D.left_since disk.old) (D.left_since disk.new) (D.may_leave disk.new) }
+    ensures still { OnlyReads D.may_leave D.moment D.left_since disk.old disk.new }
 {
-    let _ = disk.taken();
     let mut bytes = [0; 8];
     disk.read_at(at, &mut bytes)?;
     Ok(u64_at(&bytes, 0))

@@ -1,6 +1,7 @@
 //! Disks and folders: what a database is written to.
 #![tactic(auto)]
 
+mod buffer;
 mod dir_folder;
 mod disk;
 mod file;
@@ -11,6 +12,7 @@ mod open;
 mod places;
 mod tape;
 
+pub use buffer::zeros;
 pub use dir_folder::DirFolder;
 pub use disk::{Disk, DiskError};
 pub use file::FileDisk;

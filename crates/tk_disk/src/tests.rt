@@ -15,6 +15,13 @@ fn disk_of(alloc: Global, bytes: &[u8], room: u64, faults: &[u64]) -> Result<Mem
 }
 
 #[test]
+fn a_buffer_of_zeros(rt: HostRuntime) -> Result<(), Fail> {
+    let bytes = zeros(rt.alloc(), 3)?;
+    assert_eq!(rt; bytes.as_slice(), b"\0\0\0".as_slice());
+    Ok(())
+}
+
+#[test]
 fn a_disk_in_memory_reads_and_writes(rt: HostRuntime) -> Result<(), Fail> {
     let mut disk = disk_of(rt.alloc(), b"hello", 1000, &[])?;
     disk.write_at(0, b"J")?;

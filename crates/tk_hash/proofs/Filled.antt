@@ -32,7 +32,7 @@ module _ (x : Placed) (k have : ℕ) (buffer into copy : List ℕ) (key : length
       ap (λ (l : List ℕ). copy ++ l) (drop_all have into (omega (arith, all))) ∙ append-nil copy ∙ copy_is ∙ ap (λ (n : ℕ). take n x.body.value) all
 
   module _ (f : List ℕ) (link place cell : ℕ) (ys : List ℕ) (stands : StandsAt f x link) (at : x.place ≡ place) (more : have < length begun) (is : cell ≡ min (place + length buffer) 18446744073709551615)
-      (read : length (take (length begun - have) (drop have begun)) ≤ length (drop cell f) → ys ≡ take (length (take (length begun - have) (drop have begun))) (drop cell f)) where
+      (read : cell + length (take (length begun - have) (drop have begun)) ≤ length f → ys ≡ take (length (take (length begun - have) (drop have begun))) (drop cell f)) where
     abbrev values : List ℕ
     values = x.body.value ++ tail x.body x.place link stands.rest
 
@@ -51,8 +51,8 @@ module _ (x : Placed) (k have : ℕ) (buffer into copy : List ℕ) (key : length
     part : length (take (length begun - have) (drop have begun)) ≡ length into - have
     part = omega (arith, length-take (length begun - have) (drop have begun), length-drop have begun, length-begun)
 
-    long : length into - have ≤ length (drop cell f)
-    long = omega (arith, ap length behind, length-drop have values, length-append x.body.value (tail x.body x.place link stands.rest), short)
+    long : cell + (length into - have) ≤ length f
+    long = omega (arith, ap length behind, length-drop cell f, length-drop have values, length-append x.body.value (tail x.body x.place link stands.rest), short, more, length-begun)
 
     rest_is : ys ≡ take (length into - have) (drop have values)
     rest_is = read (omega (arith, part, long)) ∙ ap (λ (n : ℕ). take n (drop cell f)) part ∙ ap (λ (l : List ℕ). take (length into - have) l) behind
@@ -75,7 +75,7 @@ filled_told (Some f) x link place k have buffer into copy count bytes fits over 
 
 pub filled_more_told : (o : Option (List ℕ)) (x : Placed) (link place k have cell : ℕ) (buffer into copy ys : List ℕ) → have ≡ min (length into) (length buffer - (40 + k)) → copy ≡ take ((40 + k + have) - (40 + k)) (drop (40 + k) buffer)
     → 40 + k ≤ length buffer → have < length (copy ++ drop have into) → cell ≡ min (place + length buffer) 18446744073709551615
-    → IfSome o (λ f. length (take (length (copy ++ drop have into) - have) (drop have (copy ++ drop have into))) ≤ length (drop cell f) → ys ≡ take (length (take (length (copy ++ drop have into) - have) (drop have (copy ++ drop have into)))) (drop cell f))
+    → IfSome o (λ f. cell + length (take (length (copy ++ drop have into) - have) (drop have (copy ++ drop have into))) ≤ length f → ys ≡ take (length (take (length (copy ++ drop have into) - have) (drop have (copy ++ drop have into)))) (drop cell f))
     → IfSome o (λ f. StandsAt f x link → x.place ≡ place → length x.body.key ≡ k → Shows x.body buffer → length into ≤ length x.body.value
     → put_mid have (length (copy ++ drop have into) - have) (copy ++ drop have into) ys ≡ take (length into) x.body.value)
 filled_more_told None x link place k have cell buffer into copy ys count bytes fits more is read = tt

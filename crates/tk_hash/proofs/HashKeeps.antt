@@ -5,7 +5,7 @@ use Rattle.std.specs.Option.{option_map, is_some}
 use Rattle.std.proofs.lemmas.Option.{IfSome_then}
 use Rattle.std.specs.Vec.{with_items}
 use Rattle.std.specs.declared.vec.Vec.{Vec}
-use Rattle.tk_disk.specs.Crash.{Within}
+use Rattle.tk_disk.specs.Crash.{Within, OnlyReads}
 use Rattle.tk_model.specs.declared.record.Order.TheVariants.{Hash}
 use Rattle.tk_model.specs.declared.record.Group.{Group}
 use Rattle.tk_model.specs.Records.{replay}
@@ -16,7 +16,6 @@ use Rattle.tk_store.specs.Store.{First, IsWhole}
 use Rattle.tk_block.specs.declared.head.StaticHead.{StaticHead}
 use Rattle.tk_append.specs.LogParts.{log_disk, log_head, log_end}
 use Rattle.tk_append.specs.FileText.{IsFile}
-use Rattle.tk_append.specs.Read.{OnlyReads}
 use Rattle.tk_append.specs.Restored.{groups_in, IsKept}
 use Rattle.tk_append.proofs.Restoring.{reads_back}
 use Rattle.tk_hash.specs.Seek.{IsShelf}

@@ -16,8 +16,8 @@ use Rattle.tk_model.specs.declared.record.Bound.TheVariants.{Edge, Over, From}
 use Rattle.tk_model.specs.declared.record.Pair.{Pair}
 use Rattle.tk_model.proofs.RecordLaws.{flipped}
 use Rattle.tk_block.specs.Layout.{bucket_in}
-use Rattle.tk_append.specs.Hashed.{start_of, end_of}
-use Rattle.tk_append.proofs.Joined.{lower_first}
+use Rattle.tk_store.specs.Hashed.{start_of, end_of}
+use Rattle.tk_store.proofs.Joined.{lower_first}
 use Rattle.tk_hash.specs.Chain.{in_bucket}
 
 -- the records of the buckets from one on

@@ -1,7 +1,7 @@
 -- What calls of a disk keep of the groups in its images.
 use Rattle.std.proofs.Common.{◌≡◌, ◌⊎◌, inl, inr, ℕ, ◌+◌, ◌≤◌, List, [], ◌++◌, length, take, drop, sym, ◌∙◌, ap, arith, append_assoc}
 use Rattle.std.proofs.lemmas.List.{take-append-drop}
-use Rattle.tk_disk.specs.Crash.{Torn, Follows, Within, LeavesOnly}
+use Rattle.tk_disk.specs.Crash.{Torn, Follows, Within, LeavesOnly, OnlyReads}
 use Rattle.tk_model.specs.declared.record.Group.{Group}
 use Rattle.tk_block.specs.declared.head.StaticHead.{StaticHead}
 use Rattle.tk_block.specs.declared.block.Body.{Body}
@@ -11,7 +11,6 @@ use Rattle.tk_block.proofs.Lengths.{length-texts}
 use Rattle.tk_block.proofs.Layouts.{end_of-append, bodies_of-append}
 use Rattle.tk_block.proofs.Groups.{end_behind}
 use Rattle.tk_append.specs.Log.{blocks_of}
-use Rattle.tk_append.specs.Read.{OnlyReads}
 use Rattle.tk_append.specs.Restored.{groups_text}
 use Rattle.tk_append.proofs.Restoring.{torn_kept}
 use Rattle.tk_hash.specs.Hash.{KeepsGroups}

@@ -16,15 +16,12 @@ pub mod HeadTexts
 pub mod Heads
 pub mod InOrder
 pub mod Keeping
-pub mod Looks
 pub mod Once
 pub mod PlanLoop
 pub mod PlanSteps
-pub mod ReadSteps
 pub mod Searches
 pub mod Seen
 pub mod Sought
 pub mod Standing
-pub mod Still
 pub mod Values
 pub mod Writings

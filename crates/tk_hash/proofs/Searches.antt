@@ -12,7 +12,7 @@ use Rattle.tk_model.proofs.RecordLaws.{replay_rising}
 use Rattle.tk_block.specs.Number.{u64_in}
 use Rattle.tk_block.specs.declared.head.StaticHead.{StaticHead}
 use Rattle.tk_append.specs.FileText.{IsFile}
-use Rattle.tk_append.specs.Hashed.{start_of, end_of}
+use Rattle.tk_store.specs.Hashed.{start_of, end_of}
 use Rattle.tk_hash.specs.Chain.{in_bucket}
 use Rattle.tk_hash.specs.Seek.{IsShelf}
 use Rattle.tk_hash.specs.declared.shelf.Shelf.{Shelf}

@@ -1,6 +1,6 @@
 -- What reading a block's front and then the rest says of it.
 use Rattle.std.proofs.Common.{◌≡◌, ℕ, ◌+◌, ◌-◌, ◌<◌, ◌≤◌, ◌^◌, List, [], ◌++◌, length, take, drop, refl, sym, ◌∙◌, ap, subst, arith, append_assoc, length-append}
-use Rattle.std.specs.Prelude.{Bool, true, false, ◌==◌, ◌&&◌, min, max, Option, Some, None, IfSome, Result, Ok, Err, IfOk}
+use Rattle.std.specs.Prelude.{Bool, true, false, ◌==◌, ◌&&◌, min, max, Option, Some, None, IfSome, Result, Ok, Err, IfOk, OnOk}
 use Rattle.std.proofs.lemmas.Bool.{eq-eqb, eqb-true}
 use Rattle.std.proofs.lemmas.List.{take_at, take_all, length-take, length-drop, drop-drop}
 use Rattle.std.proofs.Math.Seq.{take-add}
@@ -124,7 +124,7 @@ cost_told (Some f) place key old first end room x link before mid now read passe
 
 -- a part of a block that was read
 pub part_told : {E : Type 0} (o : Option (List ℕ)) (r : Result (Unit {0}) E) (place from end at : ℕ) (xs ys : List ℕ) → from < end → end ≤ length xs → at ≡ min (place + from) 18446744073709551615
-    → IfSome o (λ f. length (take (end - from) (drop from xs)) ≤ length (drop at f) → IfOk r (λ _. ys ≡ take (length (take (end - from) (drop from xs))) (drop at f)))
+    → IfSome o (λ f. at + length (take (end - from) (drop from xs)) ≤ length f → OnOk r (ys ≡ take (length (take (end - from) (drop from xs))) (drop at f)))
     → IfSome o (λ f. place + from < 2 ^ 64 → end ≤ length (drop place f) → take from xs ≡ take from (drop place f) → IfOk r (λ _. take (max from end) (put_mid from (end - from) xs ys) ≡ take (max from end) (drop place f)))
 part_told None r place from end at xs ys some within is read = tt
 part_told (Some f) (Err e) place from end at xs ys some within is read = λ small long front. tt
@@ -133,4 +133,4 @@ part_told (Some f) (Ok v) place from end at xs ys some within is read = λ small
     let t : drop from (drop place f) ≡ drop at f = drop-drop from place f ∙ ap (λ (k : ℕ). drop k f) (sym same) in
     let count : length (take (end - from) (drop from xs)) ≡ end - from = omega (arith, length-take (end - from) (drop from xs), length-drop from xs, within) in
     part_joined from (end - from) (max from end) xs ys (drop place f) (omega (arith, some)) (omega (arith, some, within)) (omega (arith, some, long)) front
-    (read (omega (arith, count, some, long, ap length t, length-drop from (drop place f))) ∙ ap (λ (n : ℕ). take n (drop at f)) count ∙ ap (λ (l : List ℕ). take (end - from) l) (sym t))
+    (read (omega (arith, count, same, some, long, length-drop place f)) ∙ ap (λ (n : ℕ). take n (drop at f)) count ∙ ap (λ (l : List ℕ). take (end - from) l) (sym t))

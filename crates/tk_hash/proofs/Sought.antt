@@ -1,8 +1,6 @@
 -- A walk along a chain.
 use Rattle.std.proofs.Common.{◌≡◌, ◌≢◌, ℕ, ◌+◌, ◌*◌, ◌<◌, ◌≤◌, ◌^◌, List, [], ◌∷◌, length, take, drop, refl, sym, ◌∙◌, ap, subst, arith}
-use Rattle.std.specs.Prelude.{Bool, true, false, Option, Some, None, IfSome, if◌then◌else◌}
-use Rattle.std.proofs.lemmas.List.{length-drop}
-use Rattle.std.specs.Int.{w64, from_be_bytes}
+use Rattle.std.specs.Prelude.{Bool, true, false, Option, Some, None, Result, Ok, Err, IfOk, IfSome, if◌then◌else◌}
 use Rattle.tk_model.specs.declared.record.Group.{Group}
 use Rattle.tk_model.proofs.KeyOrders.{same_told}
 use Rattle.tk_block.specs.declared.head.StaticHead.{StaticHead}
@@ -10,7 +8,6 @@ use Rattle.tk_block.specs.Number.{u64_in}
 use Rattle.tk_block.specs.Text.{base_of}
 use Rattle.tk_block.specs.Blocks.{extent_of}
 use Rattle.tk_block.specs.Layout.{Placed, bucket_in, bodies_of}
-use Rattle.tk_block.proofs.Cells.{within}
 use Rattle.tk_append.specs.FileText.{IsFile}
 use Rattle.tk_append.proofs.Layouts.{end_of-least}
 use Rattle.tk_hash.specs.Chain.{chain_of, value_in, value_by, extents}
@@ -19,17 +16,13 @@ use Rattle.tk_hash.proofs.Chained.{file_parts, file_chained}
 
 -- ---- the head of a bucket
 
-head_in : (f bytes : List ℕ) (at : ℕ) → bytes ≡ take 8 (drop at f) → u64_in bytes 0 ≡ u64_in f at
-unfolding u64_in
-head_in f bytes at is = ap (λ (l : List ℕ). from_be_bytes w64 (take 8 l)) is ∙ ap (λ (l : List ℕ). from_be_bytes w64 l) (within 0 8 8 (drop at f) (omega arith))
-
-pub head_told : (o : Option (List ℕ)) (h : StaticHead) (bucket at n : ℕ) (key bytes : List ℕ) (groups : List Group) → bucket ≡ bucket_in h.p key → bucket < 2 ^ h.p → at ≡ 64 + 8 * bucket → n ≡ u64_in bytes 0
-    → IfSome o (λ f. 8 ≤ length (drop at f) → bytes ≡ take 8 (drop at f)) → IfSome o (λ f. IsFile h f groups → IsChained f n (chain_of h (bucket_in h.p key) groups))
-head_told None h bucket at n key bytes groups is below cell same read = tt
-head_told (Some f) h bucket at n key bytes groups is below cell same read = λ file.
+pub head_told : {E : Type 0} (o : Option (List ℕ)) (r : Result ℕ E) (h : StaticHead) (bucket : ℕ) (key : List ℕ) (groups : List Group) → bucket ≡ bucket_in h.p key → bucket < 2 ^ h.p
+    → IfSome o (λ f. 64 + 8 * bucket + 8 ≤ length f → IfOk r (λ n. n ≡ u64_in f (64 + 8 * bucket))) → IfSome o (λ f. IsFile h f groups → IfOk r (λ n. IsChained f n (chain_of h (bucket_in h.p key) groups)))
+head_told None r h bucket key groups is below read = tt
+head_told (Some f) (Err e) h bucket key groups is below read = λ file. tt
+head_told (Some f) (Ok n) h bucket key groups is below read = λ file.
     let long : base_of h.p ≤ length f = omega (arith, (file_parts h f groups file).1, end_of-least (base_of h.p) (bodies_of groups)) in
-    let first : n ≡ u64_in f (64 + 8 * bucket) = same ∙ head_in f bytes at (read (omega (arith, length-drop at f, long, below, cell))) ∙ ap (λ (k : ℕ). u64_in f k) cell in
-    subst (λ (b : ℕ). IsChained f n (chain_of h b groups)) is (subst (λ (k : ℕ). IsChained f k (chain_of h bucket groups)) (sym first) (file_chained h f groups bucket below file))
+    subst (λ (b : ℕ). IsChained f n (chain_of h b groups)) is (subst (λ (k : ℕ). IsChained f k (chain_of h bucket groups)) (sym (read (omega (arith, long, below)))) (file_chained h f groups bucket below file))
 
 -- ---- one block more
 

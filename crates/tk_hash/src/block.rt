@@ -1,10 +1,10 @@
 //! Reading a block of a chain into a buffer.
-ghost use Rattle.std.specs.Prelude.{◌≡◌, ◌+◌, ◌-◌, ◌<◌, ◌≤◌, ◌^◌, ◌&&◌, ◌==◌, ℕ, true, min, max, length, take, drop, IfOk, IfSome};
+ghost use Rattle.std.specs.Prelude.{◌≡◌, ◌+◌, ◌-◌, ◌<◌, ◌≤◌, ◌^◌, ◌&&◌, ◌==◌, ℕ, true, min, max, length, take, drop, IfOk, IfSome, OnOk};
+ghost use Rattle.tk_disk.specs.Crash.{OnlyReads};
 ghost use Rattle.tk_model.specs.Orders.{same_bytes};
 ghost use Rattle.tk_store.specs.Store.{HasCause, OkOrFault};
 ghost use Rattle.tk_block.specs.Number.{u16_in};
 ghost use Rattle.tk_block.specs.Layout.{Placed};
-ghost use Rattle.tk_append.specs.Read.{OnlyReads};
 ghost use Rattle.tk_hash.specs.Linked.{StandsAt, Shows, Sees, shown};
 
 use tk_block::{u16_at, u32_at};
@@ -25,9 +25,9 @@ pub(crate) const VALUE_LEN: usize = 28;
 
 pub(crate) const KEY: usize = 40;
 
-/// Reads bytes of the disk's file from a place on.
+/// Fills the buffer with the bytes from a place on.
 pub(crate) fn read_bytes<D: Disk>(disk: &mut D, at: u64, into: &mut [u8]) -> Result<(), StoreError>
-    ensures bytes { IfSome (D.image disk.old) (λ f. length into.old ≤ length (drop at f) → IfOk result (λ _. into.new ≡ take (length into.old) (drop at f))) }
+    ensures bytes { IfSome (D.image disk.old) (λ f. at + length into.old ≤ length f → OnOk result (into.new ≡ take (length into.old) (drop at f))) }
     ensures cost { D.taken_count disk.new ≤ D.taken_count disk.old + length into.old }
     ensures image { D.image disk.new ≡ D.image disk.old }
     ensures still { OnlyReads D.may_leave D.moment D.left_since disk.old disk.new }
@@ -35,8 +35,6 @@ pub(crate) fn read_bytes<D: Disk>(disk: &mut D, at: u64, into: &mut [u8]) -> Res
     ensures cause { HasCause (D.fault_count disk.old) (D.fault_count disk.new) result }
     ensures answers { OkOrFault result }
 {
-    // What was taken so far fits 64 bits.
-    disk.taken();
     match disk.read_at(at, into) {
         Ok(_) => Ok(()),
         Err(DiskError::Fault) => Err(StoreError::Fault),

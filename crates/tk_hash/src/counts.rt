@@ -1,22 +1,21 @@
 //! The number of records behind a group.
 ghost use Rattle.std.specs.Prelude.{◌≡◌, ◌-◌, ◌≤◌, ◌<◌, List, [], length, take, IfOk, IfSome, OnOk, Some};
 ghost use Rattle.std.specs.Option.{is_some};
+ghost use Rattle.tk_disk.specs.Crash.{OnlyReads};
 ghost use Rattle.tk_model.specs.Records.{after, find, replay, HasNoClear};
 ghost use Rattle.tk_model.specs.declared.record.Order.TheVariants.{Hash};
 ghost use Rattle.tk_model.specs.declared.record.Group.{Group};
 ghost use Rattle.tk_store.specs.Store.{HasCause, NeverFull};
 ghost use Rattle.tk_append.specs.FileText.{IsFile};
-ghost use Rattle.tk_append.specs.Read.{OnlyReads};
 ghost use Rattle.tk_hash.specs.Plan.{mark_in, marked, told_there, count_after};
 
 use crate::links::key_of;
 use crate::seek::has_key;
 use std::alloc::Global;
-use tk_append::HashedRecords;
 use tk_block::StaticHead;
 use tk_disk::Disk;
 use tk_model::{Bytes, Change, NoMemory, Pair};
-use tk_store::StoreError;
+use tk_store::{HashedRecords, StoreError};
 
 /// What a change does to its key: a byte where the key is there behind it, and none where it is not.
 fn mark_of(alloc: Global, change: &Change) -> Result<Pair, NoMemory>

@@ -2,6 +2,7 @@
 ghost use Rattle.std.specs.Prelude.{◌≡◌, ◌+◌, ◌-◌, ◌*◌, ◌≤◌, ◌<◌, ◌^◌, ◌++◌, ◌∷◌, ℕ, List, [], length, take, map, IfOk, IfSome, OnOk};
 ghost use Rattle.std.specs.Ordering.{nat_cmp};
 ghost use Rattle.std.specs.BTreeMap.{IsOrdered};
+ghost use Rattle.tk_disk.specs.Crash.{OnlyReads};
 ghost use Rattle.tk_model.specs.Records.{AllFit, HasNoClear};
 ghost use Rattle.tk_model.specs.declared.record.Group.{Group};
 ghost use Rattle.tk_store.specs.Store.{HasCause, NeverFull};
@@ -11,14 +12,14 @@ ghost use Rattle.tk_block.specs.Layout.{laid, links_of, end_of, bucket_in};
 ghost use Rattle.tk_append.specs.Chains.{HeadsAre};
 ghost use Rattle.tk_append.specs.Log.{blocks_of};
 ghost use Rattle.tk_append.specs.FileText.{IsFile};
-ghost use Rattle.tk_append.specs.Read.{OnlyReads};
 ghost use Rattle.tk_hash.specs.Plan.{with_new, AllBelow, placed_in, IsNewest};
 
 use crate::plan::NewHead;
+use crate::reading::head_at;
 use std::alloc::Global;
 use std::collections::BTreeMap;
 use tk_append::extent_of_change;
-use tk_block::{LinkList, StaticHead, u64_at};
+use tk_block::{LinkList, StaticHead};
 use tk_disk::Disk;
 use tk_model::{Change, NoMemory, bucket, mix};
 use tk_store::StoreError;
@@ -40,24 +41,6 @@ pub(crate) fn key_of(change: &Change) -> &[u8]
         Change::Put(pair) => pair.key.as_slice(),
         Change::Drop(key) => key.as_slice(),
         Change::Clear => &[],
-    }
-}
-
-/// The head of a bucket in the file.
-fn head_at<D: Disk>(disk: &mut D, bucket: u64) -> Result<u64, StoreError>
-    requires bucket { bucket < 2 ^ 24 }
-    ensures value { IfSome (D.image disk.old) (λ f. 64 + 8 * bucket + 8 ≤ length f → IfOk result (λ n. n ≡ u64_in f (64 + 8 * bucket))) }
-    ensures image { D.image disk.new ≡ D.image disk.old }
-    ensures still { OnlyReads D.may_leave D.moment D.left_since disk.old disk.new }
-    ensures taken { D.taken_count disk.old ≤ D.taken_count disk.new }
-    ensures cause { HasCause (D.fault_count disk.old) (D.fault_count disk.new) result }
-    ensures never { NeverFull result }
-{
-    let _before = disk.taken();
-    let mut bytes = [0; 8];
-    match disk.read_at(64 + 8 * bucket, &mut bytes) {
-        Ok(_) => Ok(u64_at(&bytes, 0)),
-        Err(_) => Err(StoreError::Fault),
     }
 }
 

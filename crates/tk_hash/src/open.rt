@@ -14,20 +14,11 @@ use crate::store::HashStore;
 use std::alloc::Global;
 use tk_append::{CountedLog, GroupLog, read_counted, write_fresh};
 use tk_block::{Closing, StaticHead};
-use tk_disk::{Disk, DiskError};
-use tk_model::{NoMemory, OpenError, PairList, ShardOf, Unopened};
+use tk_disk::{Disk, DiskError, zeros};
+use tk_model::{OpenError, PairList, ShardOf, Unopened};
 
 /// Room for the front of a block with the longest key, and some of its value.
 const BUFFER: usize = 1 << 17;
-
-/// So many zero bytes.
-fn zeros(alloc: Global, len: usize) -> Result<Vec<u8>, NoMemory>
-    ensures { IfOk result (λ b. length b.items ≡ len) }
-{
-    let mut bytes = Vec::new(alloc);
-    bytes.resize(len, 0)?;
-    Ok(bytes)
-}
 
 /// Writes the file of a header and no records.
 fn write_empty<D: Disk>(alloc: Global, disk: &mut D, head: &StaticHead) -> Result<(), OpenError>

@@ -1,7 +1,7 @@
 //! What a group needs beside its changes: the links of its blocks, the new heads, and the count of records behind it.
 ghost use Rattle.std.specs.Prelude.{◌≡◌, ◌+◌, ◌*◌, ◌≤◌, ◌^◌, ◌++◌, ◌∷◌, ℕ, List, [], length, replicate, IfOk, IfSome, OnOk, Some};
 ghost use Rattle.std.specs.Option.{is_some};
-ghost use Rattle.tk_disk.specs.Crash.{Torn, Follows, LeavesOnly};
+ghost use Rattle.tk_disk.specs.Crash.{Torn, Follows, LeavesOnly, OnlyReads};
 ghost use Rattle.tk_disk.specs.Disk.{HasCause as HasDiskCause};
 ghost use Rattle.tk_model.specs.Records.{after, replay, AllFit, IsClearAlone};
 ghost use Rattle.tk_model.specs.declared.record.Order.TheVariants.{Hash};
@@ -15,12 +15,12 @@ ghost use Rattle.tk_append.specs.Chains.{HeadsAre};
 ghost use Rattle.tk_append.specs.Log.{blocks_of};
 ghost use Rattle.tk_append.specs.LogParts.{log_disk, log_head, log_end};
 ghost use Rattle.tk_append.specs.FileText.{text_with, IsFile};
-ghost use Rattle.tk_append.specs.Read.{OnlyReads};
 ghost use Rattle.tk_hash.specs.declared.plan.NewHeads.TheVariants.{Cleared};
 ghost use Rattle.tk_hash.specs.Plan.{with_new, with_heads, AllBelow, FitHeads, Puts};
 
 use crate::counts::count_changes;
 use crate::links::chain_changes;
+use crate::reading::number_of_buckets;
 use std::alloc::Global;
 use tk_append::GroupLog;
 use tk_block::{LinkList, StaticHead};
@@ -128,14 +128,6 @@ fn put_renewed<D: Disk>(log: &mut GroupLog<D>, heads: &[NewHead]) -> Result<(), 
         log.set_cells(head.bucket, &head.place.to_be_bytes())?;
     }
     Ok(())
-}
-
-/// The number of buckets.
-fn number_of_buckets(p: u8) -> u64
-    requires { p ≤ 24 }
-    ensures { result ≡ 2 ^ p }
-{
-    1 << p
 }
 
 /// Writes that each bucket is empty, so many zero bytes at once.

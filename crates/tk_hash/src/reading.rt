@@ -1,42 +1,43 @@
 //! Readings of a disk for a bucket: heads, and the changes of blocks.
 ghost use Rattle.std.specs.Prelude.{◌≡◌, ◌+◌, ◌*◌, ◌^◌, ◌<◌, ◌≤◌, ℕ, List, length, take, drop, replicate, IfOk, IfSome, OnOk};
-ghost use Rattle.tk_store.specs.Store.{HasCause, NeverFull};
+ghost use Rattle.tk_disk.specs.Crash.{OnlyReads};
+ghost use Rattle.tk_store.specs.Store.{HasCause, NeverFull, OkOrFault};
 ghost use Rattle.tk_block.specs.Number.{u64_in};
 ghost use Rattle.tk_block.specs.Layout.{Placed};
 ghost use Rattle.tk_append.specs.Opening.{change_in};
-ghost use Rattle.tk_append.specs.Read.{OnlyReads};
 ghost use Rattle.tk_hash.specs.Shelf.{StandsIn};
 
+use crate::block::read_bytes;
 use std::alloc::Global;
 use tk_block::{u16_at, u32_at, u64_at};
-use tk_disk::{Disk, DiskError};
+use tk_buckets::number_at;
+use tk_disk::{Disk, zeros};
 use tk_model::{Bytes, Change, NoMemory, Pair};
 use tk_store::StoreError;
 
-/// Fills the buffer with the bytes from a place on.
-pub(crate) fn fill<D: Disk>(disk: &mut D, at: u64, into: &mut [u8]) -> Result<(), StoreError>
-    ensures bytes { IfSome (D.image disk.old) (λ f. at + length into.old ≤ length f → OnOk result (into.new ≡ take (length into.old) (drop at f))) }
+/// The number of buckets.
+pub(crate) fn number_of_buckets(p: u8) -> u64
+    requires { p ≤ 24 }
+    ensures { result ≡ 2 ^ p }
+{
+    1 << p
+}
+
+/// The head of a bucket in the file.
+pub(crate) fn head_at<D: Disk>(disk: &mut D, bucket: u64) -> Result<u64, StoreError>
+    requires bucket { bucket < 2 ^ 24 }
+    ensures value { IfSome (D.image disk.old) (λ f. 64 + 8 * bucket + 8 ≤ length f → IfOk result (λ n. n ≡ u64_in f (64 + 8 * bucket))) }
+    ensures cost { D.taken_count disk.new ≤ D.taken_count disk.old + 8 }
     ensures image { D.image disk.new ≡ D.image disk.old }
     ensures still { OnlyReads D.may_leave D.moment D.left_since disk.old disk.new }
     ensures taken { D.taken_count disk.old ≤ D.taken_count disk.new }
     ensures cause { HasCause (D.fault_count disk.old) (D.fault_count disk.new) result }
-    ensures never { NeverFull result }
+    ensures answers { OkOrFault result }
 {
-    let _ = disk.taken();
-    match disk.read_at(at, into) {
-        Ok(_) => Ok(()),
-        Err(DiskError::Fault) => Err(StoreError::Fault),
-        Err(DiskError::NoMemory) => Err(StoreError::NoMemory),
+    match number_at(disk, 64 + 8 * bucket) {
+        Ok(place) => Ok(place),
+        Err(_) => Err(StoreError::Fault),
     }
-}
-
-/// So many zero bytes.
-fn zeros(alloc: Global, len: usize) -> Result<Vec<u8>, NoMemory>
-    ensures { IfOk result (λ b. length b.items ≡ len) }
-{
-    let mut bytes = Vec::new(alloc);
-    bytes.resize(len, 0)?;
-    Ok(bytes)
 }
 
 /// So many bytes from a place on.
@@ -55,7 +56,7 @@ fn bytes_at<D: Disk>(
     ensures never { NeverFull result }
 {
     let mut bytes = zeros(alloc, len)?;
-    fill(disk, at, &mut bytes)?;
+    read_bytes(disk, at, &mut bytes)?;
     Ok(bytes)
 }
 
@@ -78,7 +79,7 @@ fn front_at<D: Disk>(disk: &mut D, place: u64) -> Result<Front, StoreError>
     ensures never { NeverFull result }
 {
     let mut bytes = [0; 48];
-    fill(disk, place, &mut bytes)?;
+    read_bytes(disk, place, &mut bytes)?;
     Ok(Front {
         kind: bytes[24],
         key: u16_at(&bytes, 26),
@@ -168,7 +169,7 @@ fn empty_from<D: Disk>(
     ensures cause { HasCause (D.fault_count disk.old) (D.fault_count disk.new) result }
     ensures never { NeverFull result }
 {
-    fill(disk, 64 + 8 * bucket, heads)?;
+    read_bytes(disk, 64 + 8 * bucket, heads)?;
     Ok(empty_front(heads) as u64)
 }
 
@@ -190,7 +191,7 @@ fn filled_from<D: Disk>(
     ensures cause { HasCause (D.fault_count disk.old) (D.fault_count disk.new) result }
     ensures never { NeverFull result }
 {
-    fill(disk, 64 + 8 * bucket, heads)?;
+    read_bytes(disk, 64 + 8 * bucket, heads)?;
     Ok(filled_front(heads) as u64)
 }
 

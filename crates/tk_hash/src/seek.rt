@@ -1,21 +1,22 @@
 //! Look-ups along the chain of a bucket.
 ghost use Rattle.std.specs.Prelude.{◌≡◌, ◌+◌, ◌-◌, ◌<◌, ◌≤◌, ℕ, List, [], length, min, IfOk, IfSome};
 ghost use Rattle.std.specs.Option.{is_some};
+ghost use Rattle.tk_disk.specs.Crash.{OnlyReads};
 ghost use Rattle.tk_model.specs.Records.{find, replay};
 ghost use Rattle.tk_model.specs.declared.record.Order.TheVariants.{Hash};
 ghost use Rattle.tk_model.specs.declared.record.Group.{Group};
 ghost use Rattle.tk_store.specs.Store.{HasCause, NeverFull, OkOrFault, Gives, GivesInto};
 ghost use Rattle.tk_block.specs.Layout.{Placed, bucket_in};
 ghost use Rattle.tk_append.specs.FileText.{IsFile};
-ghost use Rattle.tk_append.specs.Read.{OnlyReads};
 ghost use Rattle.tk_hash.specs.Chain.{chain_of, cost_in, extents};
 ghost use Rattle.tk_hash.specs.Linked.{IsChained, Found, Sought, StandsAt, Shows};
 
-use crate::block::{FRONT, KEY, KIND, LINK, VALUE_LEN, fill_value, has_key_at, read_bytes};
+use crate::block::{FRONT, KEY, KIND, LINK, VALUE_LEN, fill_value, has_key_at};
+use crate::reading::head_at;
 use std::alloc::Global;
 use tk_block::{StaticHead, u32_at, u64_at};
-use tk_disk::Disk;
-use tk_model::{Bytes, NoMemory, bucket, mix};
+use tk_disk::{Disk, zeros};
+use tk_model::{Bytes, bucket, mix};
 use tk_store::StoreError;
 
 /// The kind of a block that sets a value.
@@ -39,10 +40,7 @@ fn first_place<D: Disk>(disk: &mut D, head: &StaticHead, key: &[u8]) -> Result<u
     ensures cause { HasCause (D.fault_count disk.old) (D.fault_count disk.new) result }
     ensures answers { OkOrFault result }
 {
-    let slot = bucket(mix(key), head.p);
-    let mut bytes = [0; 8];
-    read_bytes(disk, 64 + 8 * slot, &mut bytes)?;
-    Ok(u64_at(&bytes, 0))
+    head_at(disk, bucket(mix(key), head.p))
 }
 
 /// The first block with the key in the chain that begins at a place. The buffer then has its front.
@@ -120,15 +118,6 @@ fn window(len: usize, key: usize, value: usize) -> usize
         .min(len)
 }
 
-/// So many zero bytes.
-fn zeros(alloc: Global, len: u32) -> Result<Vec<u8>, NoMemory>
-    ensures { IfOk result (λ b. length b.items ≡ len) }
-{
-    let mut bytes = Vec::new(alloc);
-    bytes.resize(len as usize, 0)?;
-    Ok(bytes)
-}
-
 /// Puts a value, of which the buffer has as much as it can, in place of the bytes in the answer.
 fn give_value<D: Disk>(
     alloc: Global,
@@ -155,7 +144,7 @@ fn give_value<D: Disk>(
         out.extend(&buffer[start..start + len])?;
         return Ok(());
     }
-    let mut bytes = zeros(alloc, value.len)?;
+    let mut bytes = zeros(alloc, len)?;
     fill_value(disk, value.place, buffer, key, &mut bytes)?;
     *out = Bytes::from_vec(bytes);
     Ok(())

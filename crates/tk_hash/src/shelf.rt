@@ -1,5 +1,6 @@
 //! The records of one bucket, for going on in hash order.
 ghost use Rattle.std.specs.Prelude.{◌≡◌, ◌+◌, ◌*◌, ◌<◌, ◌≤◌, ◌^◌, ℕ, List, [], length, true, IfOk, IfSome, OnOk};
+ghost use Rattle.tk_disk.specs.Crash.{OnlyReads};
 ghost use Rattle.tk_model.specs.Hashes.{bucket_of, mix_of};
 ghost use Rattle.tk_model.specs.Records.{first_within, last_within, replay};
 ghost use Rattle.tk_model.specs.declared.record.Order.TheVariants.{Hash};
@@ -7,20 +8,18 @@ ghost use Rattle.tk_model.specs.declared.record.Group.{Group};
 ghost use Rattle.tk_store.specs.Store.{HasCause, NeverFull};
 ghost use Rattle.tk_block.specs.Layout.{Placed};
 ghost use Rattle.tk_append.specs.FileText.{IsFile};
-ghost use Rattle.tk_append.specs.Hashed.{start_of, end_of};
-ghost use Rattle.tk_append.specs.Read.{OnlyReads};
+ghost use Rattle.tk_store.specs.Hashed.{start_of, end_of};
 ghost use Rattle.tk_hash.specs.Chain.{in_bucket};
 ghost use Rattle.tk_hash.specs.Seek.{IsShelf};
 ghost use Rattle.tk_hash.specs.Shelf.{AllStand, HasBucket, places_in, left_by};
 
-use crate::reading::{change_at, filled_below, next_filled};
+use crate::reading::{change_at, filled_below, next_filled, number_of_buckets};
 use std::alloc::Global;
-use tk_append::HashedRecords;
 use tk_block::StaticHead;
 use tk_buckets::chain;
 use tk_disk::Disk;
 use tk_model::{Bound, NoMemory, Pair, bucket, mix};
-use tk_store::StoreError;
+use tk_store::{HashedRecords, StoreError};
 
 /// The records of a bucket, as they were read.
 #[derive(Drop)]
@@ -202,14 +201,6 @@ fn last_in<D: Disk>(
 {
     lay(alloc, disk, head, shelf, bucket)?;
     Ok(last_on(shelf, bound)?)
-}
-
-/// The number of buckets.
-fn number_of_buckets(p: u8) -> u64
-    requires { p ≤ 24 }
-    ensures { result ≡ 2 ^ p }
-{
-    1 << p
 }
 
 /// Where a search up begins.

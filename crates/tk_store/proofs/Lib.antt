@@ -1,3 +1,5 @@
 pub mod Whole
 pub mod Acts
 pub mod Mem
+pub mod Bounds
+pub mod Joined

@@ -2,3 +2,4 @@ pub mod Store
 pub mod OneRecord
 pub mod Memory
 pub mod MemoryLaws
+pub mod Hashed

@@ -3,7 +3,7 @@ use Rattle.std.specs.Prelude.{Option}
 use Rattle.std.specs.List.{length_refill}
 use Rattle.tk_append.specs.Walked.{Shows}
 use Rattle.tk_append.proofs.HeadSteps.{heads_more}
-use Rattle.tk_append.proofs.Scans.{reads_on}
+use Rattle.tk_disk.proofs.Moments.{reads_joined}
 use Rattle.tk_append.proofs.heads.head_fault.Goals as goal
 
 pub loop-first-preserved : goal.loop-first-preserved
@@ -17,5 +17,5 @@ loop-first-preserved g c =
       room = sym (length_refill c.loop-first.buffer.len c.loop-first.buffer.items _ c.loop-first.buffer.ok.0) ∙ c.loop-first.buffer.ok.0 ∙ i.room;
       image = c.read_piece.ensures.image ∙ i.image;
       count = c.in_ok-read_piece.ensures.cause.kept ∙ i.count;
-      still = reads_on g.D.Disk.may_leave g.D.Disk.moment g.D.Disk.left_since c.args.disk.now c.loop-first.disk c.read_piece.new.disk g.met.D.Disk.counts_now i.still c.read_piece.ensures.still;
+      still = reads_joined g.D.Disk.may_leave g.D.Disk.moment g.D.Disk.left_since g.met.D.Disk.counts_now c.args.disk.now c.loop-first.disk c.read_piece.new.disk i.still c.read_piece.ensures.still;
     }

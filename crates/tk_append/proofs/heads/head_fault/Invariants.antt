@@ -1,6 +1,6 @@
 use Rattle.std.proofs.Common.{◌≡◌, ◌-◌, ◌*◌, length}
 use Rattle.std.specs.Prelude.{min}
-use Rattle.tk_append.specs.Read.{OnlyReads}
+use Rattle.tk_disk.specs.Crash.{OnlyReads}
 use Rattle.tk_append.proofs.HeadSteps.{HeadsSo}
 use Rattle.tk_append.proofs.heads.head_fault.Given as goal
 

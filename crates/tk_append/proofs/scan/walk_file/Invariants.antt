@@ -1,5 +1,5 @@
 use Rattle.std.proofs.Common.{◌≡◌, ◌-◌}
-use Rattle.tk_append.specs.Read.{OnlyReads}
+use Rattle.tk_disk.specs.Crash.{OnlyReads}
 use Rattle.tk_append.specs.Windows.{items}
 use Rattle.tk_append.proofs.Scans.{Scanned}
 use Rattle.tk_append.proofs.scan.walk_file.Given as goal

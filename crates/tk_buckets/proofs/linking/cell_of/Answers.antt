@@ -2,7 +2,7 @@ use Rattle.std.proofs.Common.{◌≡◌, ◌⊎◌, inl, inr, ℕ, ◌+◌, ◌/
 use Rattle.std.specs.Prelude.{Option, IfSome}
 use Rattle.tk_block.specs.Number.{u64_in}
 use Rattle.tk_buckets.proofs.Searches.{ToldToward, goes_on, ends}
-use Rattle.tk_buckets.proofs.Moments.{time_joined}
+use Rattle.tk_disk.proofs.Moments.{reads_joined}
 use Rattle.tk_buckets.proofs.linking.cell_of.Goals as goal
 use Rattle.tk_buckets.proofs.linking.cell_of.Goals.{then-loop-next-test+else-steps-len, else-loop-next-test}
 
@@ -17,8 +17,7 @@ loop-next-preserved g c =
           (c.loop-next.invariant.toward h places);
       image = c.number_at-in-loop-next.ensures.image ∙ c.loop-next.invariant.image;
       count = c.in_ok-next-2.ensures.cause.kept ∙ c.loop-next.invariant.count;
-      time = time_joined g.D.Disk.may_leave g.D.Disk.moment g.D.Disk.left_since g.met.D.Disk.counts_now c.number_at.new.disk c.loop-next.disk c.number_at-in-loop-next.new.disk c.loop-next.invariant.crash c.loop-next.invariant.time c.number_at-in-loop-next.ensures.time;
-      crash = λ l left. c.loop-next.invariant.crash l (c.number_at-in-loop-next.ensures.crash l left);
+      still = reads_joined g.D.Disk.may_leave g.D.Disk.moment g.D.Disk.left_since g.met.D.Disk.counts_now c.number_at.new.disk c.loop-next.disk c.number_at-in-loop-next.new.disk c.loop-next.invariant.still c.number_at-in-loop-next.ensures.still;
     }
 
 pub returns-clause-found : goal.returns-clause-found

@@ -6,7 +6,8 @@ use Rattle.tk_disk.specs.Crash.{Torn, Follows}
 use Rattle.tk_disk.specs.Disk.{put_at}
 use Rattle.tk_block.specs.Number.{u64_in}
 use Rattle.tk_buckets.proofs.Cuts.{found_in, cell_in, cut_in, cut_written, cut_leaves, nothing_torn, cell_torn}
-use Rattle.tk_buckets.proofs.Moments.{time_joined, cell_only}
+use Rattle.tk_disk.proofs.Moments.{time_joined, reads_joined}
+use Rattle.tk_buckets.proofs.Moments.{cell_only}
 use Rattle.tk_buckets.proofs.linking.unlink.Goals as goal
 
 pub returns-in_default-clause-written : goal.returns-in_default-clause-written
@@ -53,15 +54,15 @@ returns-in_err-len-clause-crash g c = λ places.
 
 pub returns-in_err-cell-clause-crash : goal.returns-in_err-cell-clause-crash
 returns-in_err-cell-clause-crash g c = λ places.
-    nothing_torn c.args.head.now (g.D.Disk.image c.args.disk.now) c.args.bucket c.args.place places (g.D.Disk.may_leave c.args.disk.now) _ (λ l left. c.len.ensures.crash l (c.cell_of.ensures.crash l left))
+    nothing_torn c.args.head.now (g.D.Disk.image c.args.disk.now) c.args.bucket c.args.place places (g.D.Disk.may_leave c.args.disk.now) _ (λ l left. c.len.ensures.crash l (c.cell_of.ensures.still.crash l left))
 
 pub returns-in_default-clause-crash : goal.returns-in_default-clause-crash
 returns-in_default-clause-crash g c = λ places.
-    nothing_torn c.args.head.now (g.D.Disk.image c.args.disk.now) c.args.bucket c.args.place places (g.D.Disk.may_leave c.args.disk.now) _ (λ l left. c.len.ensures.crash l (c.cell_of.ensures.crash l left))
+    nothing_torn c.args.head.now (g.D.Disk.image c.args.disk.now) c.args.bucket c.args.place places (g.D.Disk.may_leave c.args.disk.now) _ (λ l left. c.len.ensures.crash l (c.cell_of.ensures.still.crash l left))
 
 pub returns-in_err-link-clause-crash : goal.returns-in_err-link-clause-crash
 returns-in_err-link-clause-crash g c = λ places.
-    nothing_torn c.args.head.now (g.D.Disk.image c.args.disk.now) c.args.bucket c.args.place places (g.D.Disk.may_leave c.args.disk.now) _ (λ l left. c.len.ensures.crash l (c.cell_of.ensures.crash l (c.number_at.ensures.crash l left)))
+    nothing_torn c.args.head.now (g.D.Disk.image c.args.disk.now) c.args.bucket c.args.place places (g.D.Disk.may_leave c.args.disk.now) _ (λ l left. c.len.ensures.crash l (c.cell_of.ensures.still.crash l (c.number_at.ensures.still.crash l left)))
 
 pub returns-clause-crash : goal.returns-clause-crash
 returns-clause-crash g c = λ places.
@@ -70,7 +71,7 @@ returns-clause-crash g c = λ places.
     (cut_in c.args.head.now image c.args.bucket c.args.place c.in-Some.cell c.saturating_add.result c.in_ok-link.link places c.in_ok-cell.field-0 c.requires.bucket c.in-Some.is c.requires.size c.saturating_add.ensures
     (found_in c.args.head.now image (g.D.Disk.image c.len.new.self) c.args.bucket c.args.place places c.in_ok-cell.field-0 c.requires.bucket c.len.ensures.image (c.in_ok-cell.ensures.found c.args.head.now places))
     (subst (λ (o : Option (List ℕ)). IfSome o (λ f. c.saturating_add.result + 8 ≤ length f → c.in_ok-link.link ≡ u64_in f c.saturating_add.result)) (c.cell_of.ensures.image ∙ c.len.ensures.image) c.in_ok-link.ensures.value))
-    (λ l left. c.len.ensures.crash l (c.cell_of.ensures.crash l (c.number_at.ensures.crash l left)))
+    (λ l left. c.len.ensures.crash l (c.cell_of.ensures.still.crash l (c.number_at.ensures.still.crash l left)))
     (subst (λ (l : List ℕ). Follows (Torn c.in-Some.cell (length l)) (g.D.Disk.may_leave c.number_at.new.disk) (g.D.Disk.may_leave c.write_at.new.self)) c.to_be_bytes.ensures c.write_at.ensures.crash)
 
 pub returns-in_err-len-clause-time : goal.returns-in_err-len-clause-time
@@ -82,23 +83,24 @@ returns-in_err-len-clause-time g c = λ places.
 pub returns-in_err-cell-clause-time : goal.returns-in_err-cell-clause-time
 returns-in_err-cell-clause-time g c = λ places.
     cell_only g.D.Disk.may_leave g.D.Disk.moment g.D.Disk.left_since g.met.D.Disk.only_now (g.D.Disk.image c.args.disk.now) c.args.head.now c.args.bucket c.args.place places c.args.disk.now c.cell_of.new.disk
-    (time_joined g.D.Disk.may_leave g.D.Disk.moment g.D.Disk.left_since g.met.D.Disk.counts_now c.args.disk.now c.len.new.self c.cell_of.new.disk c.len.ensures.crash c.len.ensures.time c.cell_of.ensures.time)
+    (reads_joined g.D.Disk.may_leave g.D.Disk.moment g.D.Disk.left_since g.met.D.Disk.counts_now c.args.disk.now c.len.new.self c.cell_of.new.disk (record { crash = c.len.ensures.crash; time = c.len.ensures.time }) c.cell_of.ensures.still).time
     (returns-in_err-cell-clause-crash g c places)
 
 pub returns-in_default-clause-time : goal.returns-in_default-clause-time
 returns-in_default-clause-time g c = λ places.
     cell_only g.D.Disk.may_leave g.D.Disk.moment g.D.Disk.left_since g.met.D.Disk.only_now (g.D.Disk.image c.args.disk.now) c.args.head.now c.args.bucket c.args.place places c.args.disk.now c.cell_of.new.disk
-    (time_joined g.D.Disk.may_leave g.D.Disk.moment g.D.Disk.left_since g.met.D.Disk.counts_now c.args.disk.now c.len.new.self c.cell_of.new.disk c.len.ensures.crash c.len.ensures.time c.cell_of.ensures.time)
+    (reads_joined g.D.Disk.may_leave g.D.Disk.moment g.D.Disk.left_since g.met.D.Disk.counts_now c.args.disk.now c.len.new.self c.cell_of.new.disk (record { crash = c.len.ensures.crash; time = c.len.ensures.time }) c.cell_of.ensures.still).time
     (returns-in_default-clause-crash g c places)
 
 pub returns-in_err-link-clause-time : goal.returns-in_err-link-clause-time
 returns-in_err-link-clause-time g c = λ places.
     cell_only g.D.Disk.may_leave g.D.Disk.moment g.D.Disk.left_since g.met.D.Disk.only_now (g.D.Disk.image c.args.disk.now) c.args.head.now c.args.bucket c.args.place places c.args.disk.now c.number_at.new.disk
-    (time_joined g.D.Disk.may_leave g.D.Disk.moment g.D.Disk.left_since g.met.D.Disk.counts_now c.args.disk.now c.cell_of.new.disk c.number_at.new.disk (λ l left. c.len.ensures.crash l (c.cell_of.ensures.crash l left)) (time_joined g.D.Disk.may_leave g.D.Disk.moment g.D.Disk.left_since g.met.D.Disk.counts_now c.args.disk.now c.len.new.self c.cell_of.new.disk c.len.ensures.crash c.len.ensures.time c.cell_of.ensures.time) c.number_at.ensures.time)
+    (reads_joined g.D.Disk.may_leave g.D.Disk.moment g.D.Disk.left_since g.met.D.Disk.counts_now c.args.disk.now c.cell_of.new.disk c.number_at.new.disk (reads_joined g.D.Disk.may_leave g.D.Disk.moment g.D.Disk.left_since g.met.D.Disk.counts_now c.args.disk.now c.len.new.self c.cell_of.new.disk (record { crash = c.len.ensures.crash; time = c.len.ensures.time }) c.cell_of.ensures.still) c.number_at.ensures.still).time
     (returns-in_err-link-clause-crash g c places)
 
 pub returns-clause-time : goal.returns-clause-time
 returns-clause-time g c = λ places.
     cell_only g.D.Disk.may_leave g.D.Disk.moment g.D.Disk.left_since g.met.D.Disk.only_now (g.D.Disk.image c.args.disk.now) c.args.head.now c.args.bucket c.args.place places c.args.disk.now c.write_at.new.self
-    (time_joined g.D.Disk.may_leave g.D.Disk.moment g.D.Disk.left_since g.met.D.Disk.counts_now c.args.disk.now c.number_at.new.disk c.write_at.new.self (λ l left. c.len.ensures.crash l (c.cell_of.ensures.crash l (c.number_at.ensures.crash l left))) (time_joined g.D.Disk.may_leave g.D.Disk.moment g.D.Disk.left_since g.met.D.Disk.counts_now c.args.disk.now c.cell_of.new.disk c.number_at.new.disk (λ l left. c.len.ensures.crash l (c.cell_of.ensures.crash l left)) (time_joined g.D.Disk.may_leave g.D.Disk.moment g.D.Disk.left_since g.met.D.Disk.counts_now c.args.disk.now c.len.new.self c.cell_of.new.disk c.len.ensures.crash c.len.ensures.time c.cell_of.ensures.time) c.number_at.ensures.time) c.write_at.ensures.time)
+    (time_joined g.D.Disk.may_leave g.D.Disk.moment g.D.Disk.left_since g.met.D.Disk.counts_now c.args.disk.now c.number_at.new.disk c.write_at.new.self
+    (reads_joined g.D.Disk.may_leave g.D.Disk.moment g.D.Disk.left_since g.met.D.Disk.counts_now c.args.disk.now c.cell_of.new.disk c.number_at.new.disk (reads_joined g.D.Disk.may_leave g.D.Disk.moment g.D.Disk.left_since g.met.D.Disk.counts_now c.args.disk.now c.len.new.self c.cell_of.new.disk (record { crash = c.len.ensures.crash; time = c.len.ensures.time }) c.cell_of.ensures.still) c.number_at.ensures.still) c.write_at.ensures.time)
     (returns-clause-crash g c places)

@@ -2,7 +2,7 @@ use Rattle.std.proofs.Common.{◌≡◌, ◌⊎◌, inl, inr, ℕ, ◌+◌, ◌/
 use Rattle.std.specs.Prelude.{Option, IfSome}
 use Rattle.tk_block.specs.Number.{u64_in}
 use Rattle.tk_buckets.proofs.Follows.{ToldLeft, goes_on, ends, taken_so_far, taken_one_more}
-use Rattle.tk_buckets.proofs.Moments.{time_joined}
+use Rattle.tk_disk.proofs.Moments.{reads_joined}
 use Rattle.tk_buckets.proofs.places.follow.Goals as goal
 use Rattle.tk_buckets.proofs.places.follow.Goals.{then-loop-next-test+else-len, else-loop-next-test}
 
@@ -28,8 +28,7 @@ loop-next-preserved g c =
       taken = omega (arith, c.number_at.ensures.taken, c.loop-next.invariant.taken, grown);
       count = c.in_ok-next.ensures.cause.kept ∙ c.loop-next.invariant.count;
       more = omega arith;
-      time = time_joined g.D.Disk.may_leave g.D.Disk.moment g.D.Disk.left_since g.met.D.Disk.counts_now c.args.disk.now c.loop-next.disk c.number_at.new.disk c.loop-next.invariant.crash c.loop-next.invariant.time c.number_at.ensures.time;
-      crash = λ l left. c.loop-next.invariant.crash l (c.number_at.ensures.crash l left);
+      still = reads_joined g.D.Disk.may_leave g.D.Disk.moment g.D.Disk.left_since g.met.D.Disk.counts_now c.args.disk.now c.loop-next.disk c.number_at.new.disk c.loop-next.invariant.still c.number_at.ensures.still;
     }
 
 pub returns-clause-all : goal.returns-clause-all

@@ -1,5 +1,5 @@
 use Rattle.std.proofs.Common.{◌≡◌, ℕ, ◌+◌, ◌*◌, ◌-◌, ◌/◌, ◌≤◌, List, length}
-use Rattle.tk_disk.specs.Crash.{Within, Elapses}
+use Rattle.tk_disk.specs.Crash.{OnlyReads}
 use Rattle.tk_block.specs.declared.head.StaticHead.{StaticHead}
 use Rattle.tk_buckets.proofs.Follows.{ToldLeft}
 use Rattle.tk_buckets.proofs.places.follow.Given as goal
@@ -11,8 +11,7 @@ invariant-loop-next g l = record {
   taken : g.D.Disk.taken_count l.disk ≤ g.D.Disk.taken_count l.initial.disk + 8 * length l.places;
   count : g.D.Disk.fault_count l.disk ≡ g.D.Disk.fault_count l.initial.disk;
   more : g.D.Disk.taken_count l.initial.disk ≤ g.D.Disk.taken_count l.disk;
-  time : Elapses (g.D.Disk.moment l.initial.disk) (g.D.Disk.moment l.disk) (g.D.Disk.left_since l.initial.disk) (g.D.Disk.left_since l.disk) (g.D.Disk.may_leave l.disk);
-  crash : Within (g.D.Disk.may_leave l.initial.disk) (g.D.Disk.may_leave l.disk);
+  still : OnlyReads g.D.Disk.may_leave g.D.Disk.moment g.D.Disk.left_since l.initial.disk l.disk;
 }
 
 abbrev pub decreases-loop-next : goal.decreases-loop-next

@@ -12,7 +12,7 @@ use Rattle.tk_append.specs.FileText.{IsFile}
 use Rattle.tk_hash.specs.Plan.{marked, told_there}
 use Rattle.tk_hash.proofs.HeadTexts.{if_some, if_both}
 use Rattle.tk_hash.proofs.Counted.{counted_more}
-use Rattle.tk_hash.proofs.ReadSteps.{reads_more}
+use Rattle.tk_disk.proofs.Moments.{reads_joined}
 use Rattle.tk_hash.proofs.counts.count_changes.Goals as goal
 
 pub loop-i-preserved : goal.loop-i-preserved
@@ -42,7 +42,7 @@ loop-i-preserved g c =
       marks = c.in_ok-mark_before.ensures ∙ ap (λ (k : ℕ). marked (take k cs) []) next;
       buffer = e.buffer ∙ so_far.buffer;
       image = e.image ∙ so_far.image;
-      still = reads_more disk.may_leave disk.moment disk.left_since g.met.D.Disk.counts_now c.args.disk.now c.loop-i.disk c.was_there.new.disk so_far.still e.still;
+      still = reads_joined disk.may_leave disk.moment disk.left_since g.met.D.Disk.counts_now c.args.disk.now c.loop-i.disk c.was_there.new.disk so_far.still e.still;
       taken = omega (arith, so_far.taken, e.taken);
       count = e.cause.kept ∙ so_far.count;
     }

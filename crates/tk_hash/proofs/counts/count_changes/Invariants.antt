@@ -1,10 +1,10 @@
 use Rattle.std.proofs.Common.{◌≡◌, ◌-◌, ◌≤◌, List, [], length, take}
 use Rattle.std.specs.Prelude.{IfSome}
+use Rattle.tk_disk.specs.Crash.{OnlyReads}
 use Rattle.tk_model.specs.Records.{after, replay}
 use Rattle.tk_model.specs.declared.record.Order.TheVariants.{Hash}
 use Rattle.tk_model.specs.declared.record.Group.{Group}
 use Rattle.tk_append.specs.FileText.{IsFile}
-use Rattle.tk_append.specs.Read.{OnlyReads}
 use Rattle.tk_hash.specs.Plan.{marked}
 use Rattle.tk_hash.proofs.counts.count_changes.Given as goal
 

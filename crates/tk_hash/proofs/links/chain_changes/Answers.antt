@@ -13,7 +13,7 @@ use Rattle.tk_hash.specs.declared.plan.NewHead.{NewHead}
 use Rattle.tk_hash.specs.Plan.{with_new, AllBelow, placed_in, IsNewest}
 use Rattle.tk_hash.proofs.HeadTexts.{if_some, if_both}
 use Rattle.tk_hash.proofs.GroupChained.{here, fit_here, rest_ends, chained_more, file_heads, heads_there, no_clear_rest, below_last, back_to}
-use Rattle.tk_hash.proofs.ReadSteps.{reads_more}
+use Rattle.tk_disk.proofs.Moments.{reads_joined}
 use Rattle.tk_hash.proofs.links.chain_changes.Goals as goal
 
 pub overflow_add-place : goal.overflow_add-place
@@ -39,7 +39,7 @@ extent_of_change-place-requires g c =
 pub returns-in_err-chain_key-clause-still : goal.returns-in_err-chain_key-clause-still
 returns-in_err-chain_key-clause-still g c =
     let disk = g.D.Disk in
-    reads_more disk.may_leave disk.moment disk.left_since g.met.D.Disk.counts_now c.args.disk.now c.loop-change.disk c.chain_key.new.disk c.loop-change.invariant.still c.chain_key.ensures.still
+    reads_joined disk.may_leave disk.moment disk.left_since g.met.D.Disk.counts_now c.args.disk.now c.loop-change.disk c.chain_key.new.disk c.loop-change.invariant.still c.chain_key.ensures.still
 
 pub loop-change-preserved : goal.loop-change-preserved
 loop-change-preserved g c =
@@ -79,7 +79,7 @@ loop-change-preserved g c =
       no_clear = no_clear_rest x rest none;
       ends = λ number. rest_ends place extent c.args.end i x cs number at (c.extent_of_change-place.ensures number (is_nil rest)) (so_far.ends number);
       image = e.image ∙ so_far.image;
-      still = reads_more disk.may_leave disk.moment disk.left_since g.met.D.Disk.counts_now c.args.disk.now c.loop-change.disk c.chain_key.new.disk so_far.still e.still;
+      still = reads_joined disk.may_leave disk.moment disk.left_since g.met.D.Disk.counts_now c.args.disk.now c.loop-change.disk c.chain_key.new.disk so_far.still e.still;
       taken = omega (arith, so_far.taken, e.taken);
       count = e.cause.kept ∙ so_far.count;
     }

@@ -1,5 +1,6 @@
 use Rattle.std.proofs.Common.{◌≡◌, ◌-◌, ◌≤◌, ◌^◌, ℕ, List, length, take, drop}
 use Rattle.std.specs.Prelude.{IfSome}
+use Rattle.tk_disk.specs.Crash.{OnlyReads}
 use Rattle.tk_model.specs.Records.{AllFit, HasNoClear}
 use Rattle.tk_model.specs.declared.record.Group.{Group}
 use Rattle.tk_block.specs.Blocks.{group_bodies}
@@ -7,7 +8,6 @@ use Rattle.tk_block.specs.Layout.{end_of}
 use Rattle.tk_append.specs.Chains.{HeadsAre}
 use Rattle.tk_append.specs.Log.{blocks_of}
 use Rattle.tk_append.specs.FileText.{IsFile}
-use Rattle.tk_append.specs.Read.{OnlyReads}
 use Rattle.tk_hash.proofs.PlanLoop.{Ahead}
 use Rattle.tk_hash.specs.Plan.{with_new, AllBelow, IsNewest}
 use Rattle.tk_hash.proofs.links.chain_changes.Given as goal

@@ -1,7 +1,7 @@
 use Rattle.std.proofs.Common.{◌≡◌, ℕ, ◌+◌, ◌*◌, ◌-◌, ◌<◌, ◌≤◌, length}
 use Rattle.std.specs.Prelude.{IfSome}
+use Rattle.tk_disk.specs.Crash.{OnlyReads}
 use Rattle.tk_block.specs.Number.{u64_in}
-use Rattle.tk_append.specs.Read.{OnlyReads}
 use Rattle.tk_hash.proofs.reading.next_filled.Given as goal
 
 abbrev pub invariant-loop-at : goal.invariant-loop-at

@@ -1,6 +1,6 @@
 use Rattle.std.proofs.Common.{◌≡◌, ◌≤◌, List, length}
+use Rattle.tk_disk.specs.Crash.{OnlyReads}
 use Rattle.tk_block.specs.Layout.{Placed}
-use Rattle.tk_append.specs.Read.{OnlyReads}
 use Rattle.tk_hash.proofs.Sought.{ToldLeft}
 use Rattle.tk_hash.proofs.seek.find_block.Given as goal
 

@@ -1,6 +1,6 @@
 use Rattle.std.proofs.Common.{◌≡◌, ◌-◌, ◌≤◌, ◌^◌, List}
+use Rattle.tk_disk.specs.Crash.{OnlyReads}
 use Rattle.tk_model.specs.declared.record.Group.{Group}
-use Rattle.tk_append.specs.Read.{OnlyReads}
 use Rattle.tk_hash.proofs.Searches.{ToldUp, ShelfKept}
 use Rattle.tk_hash.proofs.shelf.first_record.Given as goal
 

@@ -4,7 +4,7 @@ use Rattle.tk_model.specs.Records.{last_within}
 use Rattle.tk_model.specs.declared.record.Order.TheVariants.{Hash}
 use Rattle.tk_hash.specs.Chain.{in_bucket}
 use Rattle.tk_hash.proofs.Searches.{Told, AreEmpty, few_buckets, shelf_next, shelf_same, begins_down, here_down, later_down, none_down}
-use Rattle.tk_hash.proofs.Still.{nothing_read, reads_joined}
+use Rattle.tk_disk.proofs.Moments.{nothing_read, reads_joined}
 use Rattle.tk_hash.proofs.shelf.last_record.Goals as goal
 
 pub loop-end-init : goal.loop-end-init

@@ -1,6 +1,6 @@
 use Rattle.std.proofs.Common.{◌∙◌, refl, arith}
 use Rattle.tk_hash.proofs.BucketReads.{none_left, left_next, all_left}
-use Rattle.tk_hash.proofs.Still.{nothing_read, reads_joined}
+use Rattle.tk_disk.proofs.Moments.{nothing_read, reads_joined}
 use Rattle.tk_hash.proofs.shelf.read_blocks.Goals as goal
 
 pub loop-i-init : goal.loop-i-init

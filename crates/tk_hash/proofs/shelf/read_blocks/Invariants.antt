@@ -1,7 +1,7 @@
 use Rattle.std.proofs.Common.{◌≡◌, ◌≤◌, List, drop}
 use Rattle.std.specs.Prelude.{IfSome}
+use Rattle.tk_disk.specs.Crash.{OnlyReads}
 use Rattle.tk_block.specs.Layout.{Placed}
-use Rattle.tk_append.specs.Read.{OnlyReads}
 use Rattle.tk_hash.specs.Shelf.{AllStand, places_in, left_by}
 use Rattle.tk_hash.proofs.shelf.read_blocks.Given as goal
 

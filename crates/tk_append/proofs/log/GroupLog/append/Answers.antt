@@ -1,8 +1,8 @@
 use Rattle.std.proofs.Common.{ℕ, ◌+◌, List, length, sym, ◌∙◌, ap, subst, arith}
 use Rattle.tk_disk.specs.Crash.{Torn, Follows, LeavesOnly}
+use Rattle.tk_disk.proofs.Moments.{TornOf, leaves_torn}
 use Rattle.tk_block.specs.Blocks.{group_bodies}
 use Rattle.tk_block.specs.Layout.{end_of}
-use Rattle.tk_append.proofs.Elapsed.{TornFrom, leaves_torn}
 use Rattle.tk_append.proofs.LogSteps.{ready_text, text_is, end_is, written_end, end_more, there_more}
 use Rattle.tk_append.proofs.log.GroupLog.append.Goals as goal
 
@@ -56,12 +56,12 @@ returns-clause-crash g c = λ cs links ready.
 
 pub returns-in_err-write_at-clause-time : goal.returns-in_err-write_at-clause-time
 returns-in_err-write_at-clause-time g c = λ cs links ready.
-    subst (λ (l : List ℕ). LeavesOnly g.D.Disk.moment g.D.Disk.left_since c.args.self.now.disk c.write_at.new.self (TornFrom g.D.Disk.may_leave c.args.self.now.disk c.args.self.now.end (length l)))
+    subst (λ (l : List ℕ). LeavesOnly g.D.Disk.moment g.D.Disk.left_since c.args.self.now.disk c.write_at.new.self (TornOf g.D.Disk.may_leave g.D.Disk.moment g.D.Disk.left_since c.args.self.now.disk c.args.self.now.end (length l)))
     (c.as_slice.ensures ∙ text_is c.args.self.now c.args.number _ cs links ready c.renumber.ensures)
-    (leaves_torn g.D.Disk.moment g.D.Disk.left_since g.D.Disk.may_leave g.met.D.Disk.only_now _ _ _ _ c.write_at.ensures.crash c.write_at.ensures.time)
+    (leaves_torn g.D.Disk.may_leave g.D.Disk.moment g.D.Disk.left_since g.met.D.Disk.only_now _ _ _ _ c.write_at.ensures.crash c.write_at.ensures.time)
 
 pub returns-clause-time : goal.returns-clause-time
 returns-clause-time g c = λ cs links ready.
-    subst (λ (l : List ℕ). LeavesOnly g.D.Disk.moment g.D.Disk.left_since c.args.self.now.disk c.write_at.new.self (TornFrom g.D.Disk.may_leave c.args.self.now.disk c.args.self.now.end (length l)))
+    subst (λ (l : List ℕ). LeavesOnly g.D.Disk.moment g.D.Disk.left_since c.args.self.now.disk c.write_at.new.self (TornOf g.D.Disk.may_leave g.D.Disk.moment g.D.Disk.left_since c.args.self.now.disk c.args.self.now.end (length l)))
     (c.as_slice.ensures ∙ text_is c.args.self.now c.args.number _ cs links ready c.renumber.ensures)
-    (leaves_torn g.D.Disk.moment g.D.Disk.left_since g.D.Disk.may_leave g.met.D.Disk.only_now _ _ _ _ c.write_at.ensures.crash c.write_at.ensures.time)
+    (leaves_torn g.D.Disk.may_leave g.D.Disk.moment g.D.Disk.left_since g.met.D.Disk.only_now _ _ _ _ c.write_at.ensures.crash c.write_at.ensures.time)

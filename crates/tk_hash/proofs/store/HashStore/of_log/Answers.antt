@@ -1,4 +1,6 @@
-use Rattle.std.proofs.Common.{refl, arith}
+use Rattle.std.proofs.Common.{refl, sym, subst, arith}
+use Rattle.tk_disk.specs.Crash.{LeavesOnly}
+use Rattle.tk_disk.proofs.Moments.{TornOf}
 use Rattle.tk_hash.proofs.HashOpens.{closed_header, opened}
 use Rattle.tk_hash.proofs.store.HashStore.of_log.Goals as goal
 
@@ -16,3 +18,7 @@ returns-in-Ok-begin-clause-stands g c groups is =
       durable = c.in-Ok-begin.ensures.durable;
     })
     c.begin.ensures.head c.begin.ensures.end refl refl refl (omega (arith, c.in-Ok.ensures)) refl
+
+pub returns-in-Err-begin-clause-back_time : goal.returns-in-Err-begin-clause-back_time
+returns-in-Err-begin-clause-back_time g c =
+    subst (λ (disk : g.row.D.Denot). LeavesOnly g.D.Disk.moment g.D.Disk.left_since c.args.log.disk disk (TornOf g.D.Disk.may_leave g.D.Disk.moment g.D.Disk.left_since c.args.log.disk 32 32)) (sym c.into_disk-in-Err-begin.ensures) c.begin.ensures.time

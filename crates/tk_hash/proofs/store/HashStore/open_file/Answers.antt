@@ -4,7 +4,7 @@ use Rattle.std.proofs.lemmas.Result.{IfOk-weaker}
 use Rattle.tk_block.specs.declared.head.StaticHead.{StaticHead}
 use Rattle.tk_append.specs.Log.{closed_text}
 use Rattle.tk_append.specs.LogParts.{log_disk, log_head}
-use Rattle.tk_append.proofs.Elapsed.{torn_read}
+use Rattle.tk_disk.proofs.Moments.{torn_read}
 use Rattle.tk_hash.proofs.HashOpens.{counted_log, all_ok, err_weaker}
 use Rattle.tk_hash.proofs.store.HashStore.open_file.Goals as goal
 
@@ -28,8 +28,8 @@ returns-clause-opened g c =
 
 pub returns-clause-time : goal.returns-clause-time
 returns-clause-time g c =
-    IfOk-weaker c.of_log.result _ _ (λ s time. torn_read g.D.Disk.moment g.D.Disk.left_since g.D.Disk.may_leave g.met.D.Disk.only_now c.args.disk (log_disk c.in_ok-log.field-0.log) (log_disk s.log) 32 32 c.in_ok-log.ensures.still time) c.of_log.ensures.time
+    IfOk-weaker c.of_log.result _ _ (λ s time. torn_read g.D.Disk.may_leave g.D.Disk.moment g.D.Disk.left_since g.met.D.Disk.only_now c.args.disk (log_disk c.in_ok-log.field-0.log) (log_disk s.log) 32 32 c.in_ok-log.ensures.still time) c.of_log.ensures.time
 
 pub returns-clause-back_time : goal.returns-clause-back_time
 returns-clause-back_time g c =
-    err_weaker c.of_log.result _ _ (λ u time. torn_read g.D.Disk.moment g.D.Disk.left_since g.D.Disk.may_leave g.met.D.Disk.only_now c.args.disk (log_disk c.in_ok-log.field-0.log) u.disk 32 32 c.in_ok-log.ensures.still time) c.of_log.ensures.back_time
+    err_weaker c.of_log.result _ _ (λ u time. torn_read g.D.Disk.may_leave g.D.Disk.moment g.D.Disk.left_since g.met.D.Disk.only_now c.args.disk (log_disk c.in_ok-log.field-0.log) u.disk 32 32 c.in_ok-log.ensures.still time) c.of_log.ensures.back_time

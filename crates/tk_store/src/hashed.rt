@@ -1,0 +1,415 @@
+//! Records in hash order, kept by bucket.
+ghost use Rattle.std.specs.Prelude.{◌≡◌, [], ◌∷◌, ◌≤◌, ◌<◌, ◌^◌, ◌+◌, ◌↔◌, length, replicate, take, drop, IsTrue, IfOk, OnOk, OnErr, MatchOption, MatchResult};
+ghost use Rattle.std.specs.Option.{option_copied};
+ghost use Rattle.tk_model.specs.Hashes.{mix_of, bucket_of};
+ghost use Rattle.tk_model.specs.Places.{StandsAt, StandsNowhere, GoesAt, GoesBefore};
+ghost use Rattle.tk_model.specs.Records.{find, put, without, after_one, reaches, first_within, last_within, Rising};
+ghost use Rattle.tk_model.specs.declared.record.Order.TheVariants.{Hash};
+ghost use Rattle.tk_store.specs.Hashed.{joined, start_of, end_of};
+
+use std::alloc::{AllocError, Global};
+use std::cmp::Ordering;
+use std::marker::Model;
+use tk_model::{
+    Bound, Bytes, Change, ListOf, NoMemory, Order, Pair, PairList, Way, bucket, compare_keys,
+    is_same, mix,
+};
+
+/// Records in hash order, kept in `2^p` buckets.
+#[derive(Debug, Drop)]
+pub struct HashedRecords {
+    p: u8,
+    buckets: Vec<PairList>,
+    count: usize,
+}
+
+impl Model for HashedRecords {
+    ghost use Rattle.std.specs.Prelude.{List};
+    ghost use Rattle.tk_model.specs.declared.record.Pair.{Pair};
+    ghost use Rattle.tk_store.specs.Hashed.{joined, AreBuckets};
+
+    ghost Value = { List Pair };
+
+    ghost view = { λ h. joined h.buckets.items };
+
+    ghost invariant = { λ h. AreBuckets h.p h.buckets.items h.count };
+}
+
+impl Clone for HashedRecords {
+    ghost is_clone = { λ old new. new ≡ old };
+
+    fn clone(&self) -> Result<HashedRecords, AllocError> {
+        let buckets = copy_of_all(&self.buckets)?;
+        Ok(HashedRecords {
+            p: self.p,
+            buckets,
+            count: self.count,
+        })
+    }
+}
+
+fn copy_of(pairs: &PairList) -> Result<PairList, AllocError>
+    ensures { IfOk result (λ copy. copy ≡ pairs.now) }
+{
+    pairs.clone()
+}
+
+fn copy_of_all(buckets: &Vec<PairList>) -> Result<Vec<PairList>, AllocError>
+    ensures { IfOk result (λ copies. copies.items ≡ buckets.now.items) }
+{
+    let mut copies = Vec::with_capacity(*buckets.allocator(), buckets.len())?;
+    for bucket in buckets {
+        copies.push(copy_of(bucket)?)?;
+    }
+    Ok(copies)
+}
+
+/// The bucket of a key.
+fn bucket_at(key: &[u8], p: u8) -> usize
+    requires { p ≤ 24 }
+    ensures value { result ≡ bucket_of (mix_of key.now) p }
+    ensures below { result < 2 ^ p }
+{
+    bucket(mix(key), p) as usize
+}
+
+fn number_of_buckets(p: u8) -> usize
+    requires { p ≤ 24 }
+    ensures { result ≡ 2 ^ p }
+{
+    1 << p
+}
+
+fn empty_buckets(alloc: Global, number: usize) -> Result<Vec<PairList>, NoMemory>
+    ensures { IfOk result (λ buckets. buckets.items ≡ replicate number []) }
+{
+    let mut buckets = Vec::with_capacity(alloc, number)?;
+    for _i in 0..number {
+        buckets.push(ListOf::new(alloc))?;
+    }
+    Ok(buckets)
+}
+
+fn place_of(pairs: &[Pair], key: &[u8]) -> Option<usize>
+    ensures { MatchOption result (StandsNowhere key.now pairs.now) (StandsAt key.now pairs.now) }
+{
+    for i in 0..pairs.len() {
+        if is_same(key, pairs[i].key.as_slice()) {
+            return Some(i);
+        }
+    }
+    None
+}
+
+/// The place of a key's record, or else the place where it belongs.
+fn place_to_put(pairs: &[Pair], key: &[u8]) -> Result<usize, usize>
+    ensures { MatchResult result (GoesAt Hash key.now pairs.now) (GoesBefore Hash key.now pairs.now) }
+{
+    for i in 0..pairs.len() {
+        match compare_keys(&Order::Hash, key, pairs[i].key.as_slice()) {
+            Ordering::Less => return Err(i),
+            Ordering::Equal => return Ok(i),
+            Ordering::Greater => {}
+        }
+    }
+    Err(pairs.len())
+}
+
+/// Puts a record in, and answers how many there are then, with those of the other buckets.
+fn put_in(pairs: &mut PairList, new: Pair, count: usize) -> Result<usize, NoMemory>
+    ensures ok { OnOk result (pairs.new ≡ put Hash new pairs.old) }
+    ensures counted { IfOk result (λ after. after + length pairs.old ≡ count + length pairs.new) }
+    ensures err { OnErr result (pairs.new ≡ pairs.old) }
+{
+    match place_to_put(pairs.as_slice(), new.key.as_slice()) {
+        Ok(i) => {
+            pairs.set(i, new);
+            Ok(count)
+        }
+        Err(i) => {
+            let Some(after) = count.checked_add(1) else {
+                return Err(NoMemory);
+            };
+            pairs.insert(i, new)?;
+            Ok(after)
+        }
+    }
+}
+
+/// Takes a key's record out, and answers how many are left, with those of the other buckets.
+fn drop_in(pairs: &mut PairList, key: &[u8], count: usize) -> usize
+    requires { length pairs.old ≤ count }
+    ensures rest { pairs.new ≡ without key.now pairs.old }
+    ensures counted { result + length pairs.old ≡ count + length pairs.new }
+{
+    let Some(i) = place_of(pairs.as_slice(), key) else {
+        return count;
+    };
+    pairs.remove(i);
+    count - 1
+}
+
+fn value_in<'a>(pairs: &'a [Pair], key: &[u8]) -> Option<&'a Bytes>
+    ensures { option_copied result ≡ find key.now pairs.now }
+{
+    match place_of(pairs, key) {
+        Some(i) => Some(&pairs[i].value),
+        None => None,
+    }
+}
+
+fn clear_all(buckets: &mut Vec<PairList>)
+    ensures { buckets.new.items ≡ replicate (length buckets.old.items) [] }
+{
+    for i in 0..buckets.len() {
+        buckets[i].clear();
+    }
+}
+
+fn is_within(way: Way, bound: &Bound, key: &[u8]) -> bool
+    ensures { result ≡ reaches Hash way bound.now key.now }
+{
+    match bound {
+        Bound::Edge => true,
+        Bound::Over(from) => {
+            let found = compare_keys(&Order::Hash, from.as_slice(), key);
+            match way {
+                Way::Up => found.is_lt(),
+                Way::Down => found.is_gt(),
+            }
+        }
+        Bound::From(from) => {
+            let found = compare_keys(&Order::Hash, from.as_slice(), key);
+            match way {
+                Way::Up => found.is_le(),
+                Way::Down => found.is_ge(),
+            }
+        }
+    }
+}
+
+fn first_in<'a>(pairs: &'a [Pair], bound: &Bound) -> Option<&'a Pair>
+    ensures { option_copied result ≡ first_within Hash bound.now pairs.now }
+{
+    for i in 0..pairs.len() {
+        let pair = &pairs[i];
+        if is_within(Way::Up, bound, pair.key.as_slice()) {
+            return Some(pair);
+        }
+    }
+    None
+}
+
+fn last_in<'a>(pairs: &'a [Pair], bound: &Bound) -> Option<&'a Pair>
+    ensures { option_copied result ≡ last_within Hash bound.now pairs.now }
+{
+    for i in (0..pairs.len()).rev() {
+        let pair = &pairs[i];
+        if is_within(Way::Down, bound, pair.key.as_slice()) {
+            return Some(pair);
+        }
+    }
+    None
+}
+
+/// Where a search up begins.
+fn start_at(bound: &Bound, p: u8) -> usize
+    requires { p ≤ 24 }
+    ensures value { result ≡ start_of p bound.now }
+    ensures below { result ≤ 2 ^ p }
+{
+    match bound {
+        Bound::Edge => 0,
+        Bound::Over(key) | Bound::From(key) => bucket_at(key.as_slice(), p),
+    }
+}
+
+/// Behind where a search down begins.
+fn end_at(bound: &Bound, p: u8) -> usize
+    requires { p ≤ 24 }
+    ensures value { result ≡ end_of p bound.now }
+    ensures below { result ≤ 2 ^ p }
+{
+    match bound {
+        Bound::Edge => number_of_buckets(p),
+        Bound::Over(key) | Bound::From(key) => bucket_at(key.as_slice(), p) + 1,
+    }
+}
+
+fn first_from<'a>(buckets: &'a [PairList], start: usize, bound: &Bound) -> Option<&'a Pair>
+    requires { start ≤ length buckets.now }
+    ensures { option_copied result ≡ first_within Hash bound.now (joined (drop start buckets.now)) }
+{
+    for i in start..buckets.len() {
+        if let Some(pair) = first_in(buckets[i].as_slice(), bound) {
+            return Some(pair);
+        }
+    }
+    None
+}
+
+fn last_before<'a>(buckets: &'a [PairList], end: usize, bound: &Bound) -> Option<&'a Pair>
+    requires { end ≤ length buckets.now }
+    ensures { option_copied result ≡ last_within Hash bound.now (joined (take end buckets.now)) }
+{
+    for i in (0..end).rev() {
+        if let Some(pair) = last_in(buckets[i].as_slice(), bound) {
+            return Some(pair);
+        }
+    }
+    None
+}
+
+impl HashedRecords {
+    /// No records, and `2^p` empty buckets.
+    pub fn new(alloc: Global, p: u8) -> Result<HashedRecords, NoMemory>
+        requires { p ≤ 24 }
+        ensures { IfOk result (λ r. r ≡ []) }
+    {
+        let buckets = empty_buckets(alloc, number_of_buckets(p))?;
+        Ok(HashedRecords {
+            p,
+            buckets,
+            count: 0,
+        })
+    }
+
+    pub fn len(&self) -> usize
+        ensures { result ≡ length self.now }
+    {
+        self.count
+    }
+
+    pub fn is_empty(&self) -> bool
+        ensures { IsTrue result ↔ (self.now ≡ []) }
+    {
+        self.count == 0
+    }
+
+    pub fn get(&self, key: &[u8]) -> Option<&Bytes>
+        ensures { option_copied result ≡ find key.now self.now }
+    {
+        value_in(self.buckets[bucket_at(key, self.p)].as_slice(), key)
+    }
+
+    /// Looks at the bucket of the key alone.
+    pub fn put(&mut self, new: Pair) -> Result<(), NoMemory>
+        ensures ok { OnOk result (self.new ≡ put Hash new self.old) }
+        ensures err { OnErr result (self.new ≡ self.old) }
+    {
+        let at = bucket_at(new.key.as_slice(), self.p);
+        self.count = put_in(&mut self.buckets[at], new, self.count)?;
+        Ok(())
+    }
+
+    pub fn remove(&mut self, key: &[u8])
+        ensures { self.new ≡ without key.now self.old }
+    {
+        let at = bucket_at(key, self.p);
+        self.count = drop_in(&mut self.buckets[at], key, self.count);
+    }
+
+    pub fn clear(&mut self)
+        ensures { self.new ≡ [] }
+    {
+        clear_all(&mut self.buckets);
+        self.count = 0;
+    }
+
+    /// Makes one change, whose key and value are moved.
+    pub fn apply(&mut self, change: Change) -> Result<(), NoMemory>
+        ensures ok { OnOk result (self.new ≡ after_one Hash change self.old) }
+        ensures err { OnErr result (self.new ≡ self.old) }
+    {
+        match change {
+            Change::Put(new) => self.put(new)?,
+            Change::Drop(key) => self.remove(key.as_slice()),
+            Change::Clear => self.clear(),
+        }
+        Ok(())
+    }
+
+    /// The first record within a bound on the way up.
+    pub fn first_within(&self, bound: &Bound) -> Option<&Pair>
+        ensures { option_copied result ≡ first_within Hash bound.now self.now }
+    {
+        let start = start_at(bound, self.p);
+        first_from(self.buckets.as_slice(), start, bound)
+    }
+
+    /// The first record within a bound on the way down.
+    pub fn last_within(&self, bound: &Bound) -> Option<&Pair>
+        ensures { option_copied result ≡ last_within Hash bound.now self.now }
+    {
+        let end = end_at(bound, self.p);
+        last_before(self.buckets.as_slice(), end, bound)
+    }
+
+    /// The records stand in hash order.
+    pub fn in_hash_order(&self)
+        ensures { Rising Hash self.now }
+    {
+        let _ = &self.p;
+    }
+}
+
+#[cfg(test)]
+mod tests {
+    use super::*;
+
+    fn bytes(alloc: Global, text: &[u8]) -> Result<Bytes, NoMemory>
+        ensures { IfOk result (λ b. b ≡ text.now) }
+    {
+        Bytes::from_slice(alloc, text)
+    }
+
+    fn pair(alloc: Global, key: &[u8], value: &[u8]) -> Result<Pair, NoMemory>
+        ensures { IfOk result (λ p. (p.key ≡ key.now) × (p.value ≡ value.now)) }
+    {
+        Ok(Pair {
+            key: bytes(alloc, key)?,
+            value: bytes(alloc, value)?,
+        })
+    }
+
+    fn copied(records: &HashedRecords) -> Result<HashedRecords, NoMemory>
+        ensures { IfOk result (λ copy. copy ≡ records.now) }
+    {
+        Ok(records.clone()?)
+    }
+
+    #[test]
+    fn a_copy_is_alike(rt: HostRuntime) {
+        let mut records = HashedRecords::new(rt.alloc(), 3).expect(&rt, "memory");
+        let new = pair(rt.alloc(), b"a", b"1").expect(&rt, "memory");
+        records.put(new).expect(&rt, "memory");
+        let copy = copied(&records).expect(&rt, "memory");
+        records.clear();
+        assert!(rt; records.is_empty());
+        assert!(rt; copy.len() == 1);
+    }
+
+    #[test]
+    fn keys_stand_by_their_hash(rt: HostRuntime) {
+        // The mixed hash of b is 0x6e67.., that of a 0x82a2..
+        let mut records = HashedRecords::new(rt.alloc(), 4).expect(&rt, "memory");
+        for text in [b"a", b"b"] {
+            let new = pair(rt.alloc(), text, b"1").expect(&rt, "memory");
+            records.apply(Change::Put(new)).expect(&rt, "memory");
+        }
+        let first = records.first_within(&Bound::Edge).expect(&rt, "a record");
+        let last = records.last_within(&Bound::Edge).expect(&rt, "a record");
+        assert!(rt; is_same(first.key.as_slice(), b"b"));
+        assert!(rt; is_same(last.key.as_slice(), b"a"));
+    }
+
+    #[test]
+    fn a_dropped_key_is_gone(rt: HostRuntime) {
+        let mut records = HashedRecords::new(rt.alloc(), 0).expect(&rt, "memory");
+        let new = pair(rt.alloc(), b"a", b"1").expect(&rt, "memory");
+        records.put(new).expect(&rt, "memory");
+        let key = bytes(rt.alloc(), b"a").expect(&rt, "memory");
+        records.apply(Change::Drop(key)).expect(&rt, "memory");
+        assert!(rt; records.get(b"a").is_none());
+    }
+}
