@@ -6,7 +6,7 @@ use Rattle.tk_disk.specs.Crash.{Torn, Shortened, Follows, Within, Only, Elapses}
 use Rattle.tk_disk.specs.Disk.{put_at}
 use Rattle.tk_disk.specs.declared.tape.Step.{Step}
 use Rattle.tk_disk.specs.declared.tape.Step.TheVariants.{Write, Cut, Sync}
-use Rattle.tk_disk.specs.Memory.{TapeView, state_after, state_now, MayLeave, LeftSince}
+use Rattle.tk_disk.specs.Memory.{TapeView, state_after, state_now, MayLeave, LeftSince, Grows}
 use Rattle.tk_disk.specs.TapeInside.{Tells}
 use Rattle.tk_disk.specs.Replay.{State, replay, settled, written, shortened, spent, IsLeft, IsSound}
 use Rattle.tk_disk.proofs.Still.{still}
@@ -28,12 +28,6 @@ pub begun_only : (v : TapeView) (bytes : List ℕ) → v.first ≡ bytes → v.s
 unfolding state_now settled
 begun_only v bytes first none c left =
     elim (subst (λ (l : List Step). IsLeft (replay l v.store (settled v.first)) c) none left) [ inl now ↦ now ∙ first | inr image ↦ settled-only v.first c image ∙ first ]
-
--- a tape and the same with one step more
-pub record Grows (v w : TapeView) (step : Step) (bytes : List ℕ) : Type 0 where
-  pub first : w.first ≡ v.first
-  pub steps : w.steps ≡ v.steps ++ step ∷ []
-  pub store : w.store ≡ v.store ++ bytes
 
 module _ (v w : TapeView) (step : Step) (bytes : List ℕ) (grows : Grows v w step bytes) (all_stored : spent v.steps ≡ length v.store) where
   earlier : (k : ℕ) → k ≤ length v.steps → state_after w k ≡ replay (take k v.steps) v.store (settled v.first)

@@ -15,8 +15,9 @@ NoneOut is_out = (name : List ℕ) → is_out name ≡ false
 abbrev pub SameBut : {A : Type 0} → List ℕ → (List ℕ → A) → (List ℕ → A) → Type 0
 SameBut name before after = (m : List ℕ) → m ≢ name → after m ≡ before m
 
--- Of a file, what a crash may leave now, or may have left since a moment, was so before.
+-- Of a file, what a crash may leave now was so before, and what it may have left since a moment is as it was.
 pub record SameHistory (before now : ℕ) (left leaves : List ℕ → Type 0) (past since : ℕ → List ℕ → Type 0) : Type 0 where
   pub moment : now ≡ before
   pub crash : Within left leaves
   pub time : (t : ℕ) → Within (past t) (since t)
+  pub keeps : (t : ℕ) → Within (since t) (past t)

@@ -1,5 +1,5 @@
 -- A disk in memory, as contracts see it: what it began with, and each step that changed it.
-use Rattle.std.specs.Prelude.{◌⊎◌, ℕ, ◌<◌, ◌≤◌, List, length, take}
+use Rattle.std.specs.Prelude.{◌≡◌, ◌⊎◌, ℕ, ◌<◌, ◌≤◌, List, [], ◌∷◌, ◌++◌, length, take}
 use Rattle.tk_disk.specs.declared.tape.Step.{Step}
 use Rattle.tk_disk.specs.Replay.{State, replay, settled, IsLeft}
 
@@ -8,6 +8,18 @@ pub record TapeView : Type 0 where
   pub steps : List Step
   pub store : List ℕ
   pub room : ℕ
+
+-- one step more is written down, with the bytes of its write
+pub record Grows (v w : TapeView) (step : Step) (bytes : List ℕ) : Type 0 where
+  pub first : w.first ≡ v.first
+  pub steps : w.steps ≡ v.steps ++ step ∷ []
+  pub store : w.store ≡ v.store ++ bytes
+
+-- nothing more is written down
+pub record Stays (v w : TapeView) : Type 0 where
+  pub first : w.first ≡ v.first
+  pub steps : w.steps ≡ v.steps
+  pub store : w.store ≡ v.store
 
 unfoldable pub state_after : TapeView → ℕ → State
 state_after v k = replay (take k v.steps) v.store (settled v.first)

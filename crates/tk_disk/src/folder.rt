@@ -53,6 +53,7 @@ pub trait Folder {
         ensures counts { (m : List ℕ) → disk_faults self.new m ≡ disk_faults self.old m }
         ensures tells { tells self.new ≡ tells self.old }
         ensures cause { HasFaultCause (fault_count self.old) (fault_count self.new) result }
+        ensures unmet { IsErrOf result DiskError.NoMemory → fault_count self.new ≡ fault_count self.old }
         ensures crash { IfOk result (λ o. IfSome o (λ d. SameHistory (moment_of self.old name.now) (Self.D.moment d) (leaves self.old name.now) (Self.D.may_leave d) (left_since self.old name.now) (Self.D.left_since d))) }
         ensures none_crash { IfOk result (λ o. IfNone o (SameHistory (moment_of self.old name.now) (moment_of self.new name.now) (leaves self.old name.now) (leaves self.new name.now) (left_since self.old name.now) (left_since self.new name.now))) }
         ensures err_crash { OnErr result (SameHistory (moment_of self.old name.now) (moment_of self.new name.now) (leaves self.old name.now) (leaves self.new name.now) (left_since self.old name.now) (left_since self.new name.now)) }

@@ -179,7 +179,7 @@ impl MemFolder {
 
 #[tactic(auto, using(crate::proofs::Histories::kept, crate::proofs::Histories::given, crate::proofs::Histories::taken, crate::proofs::Histories::created))]
 impl Folder for MemFolder {
-    ghost use Rattle.std.specs.Prelude.{◌≡◌, ◌≢◌, ℕ, List, true, false, IsSome, IfOk, IfSome, IfNone, OnOk, OnErr, OnSome, None, Some};
+    ghost use Rattle.std.specs.Prelude.{◌≡◌, ◌≢◌, ℕ, List, true, false, IsSome, IfOk, IfSome, IfNone, OnOk, OnErr, OnSome, None, Some, IsErrOf};
     ghost use Rattle.tk_disk.specs.Disk.{HasCause, HasFaultCause};
     ghost use Rattle.tk_disk.specs.Folder.{or_empty, SameBut, SameHistory};
     ghost use Rattle.tk_disk.specs.FolderLaws.{slot_reads, slot_counts_now, slot_only_now};
@@ -231,6 +231,7 @@ impl Folder for MemFolder {
         ensures counts { (m : List ℕ) → folder_disk_faults self.new m ≡ folder_disk_faults self.old m }
         ensures tells { folder_tells self.new ≡ folder_tells self.old }
         ensures cause { HasFaultCause (folder_faults self.old) (folder_faults self.new) result }
+        ensures unmet { IsErrOf result DiskError.NoMemory → folder_faults self.new ≡ folder_faults self.old }
         ensures crash { IfOk result (λ o. IfSome o (λ d. SameHistory (folder_moment_of self.old name.now) (mem_moment d) (FolderLeaves self.old name.now) (MemMayLeave d) (FolderLeftSince self.old name.now) (MemLeftSince d))) }
         ensures none_crash { IfOk result (λ o. IfNone o (SameHistory (folder_moment_of self.old name.now) (folder_moment_of self.new name.now) (FolderLeaves self.old name.now) (FolderLeaves self.new name.now) (FolderLeftSince self.old name.now) (FolderLeftSince self.new name.now))) }
         ensures err_crash { OnErr result (SameHistory (folder_moment_of self.old name.now) (folder_moment_of self.new name.now) (FolderLeaves self.old name.now) (FolderLeaves self.new name.now) (FolderLeftSince self.old name.now) (FolderLeftSince self.new name.now)) }

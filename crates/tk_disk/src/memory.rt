@@ -97,11 +97,13 @@ impl MemDisk {
 
 #[tactic(auto, using(crate::proofs::Still::still, crate::proofs::Still::not_torn, crate::proofs::Still::not_cut, crate::proofs::Still::within_itself))]
 impl Disk for MemDisk {
-    ghost use Rattle.std.specs.Prelude.{◌≡◌, ◌+◌, ◌≤◌, ◌^◌, true, length, take, IfOk, OnOk};
+    ghost use Rattle.std.specs.Prelude.{◌≡◌, ◌+◌, ◌≤◌, ◌^◌, [], true, false, length, take, IfOk, OnOk};
     ghost use Rattle.std.specs.Option.{option_map};
     ghost use Rattle.tk_disk.specs.Crash.{Torn, Shortened, Follows, Within, Only};
     ghost use Rattle.tk_disk.specs.Disk.{put_at, ReadsFrom, HasCause, Takes};
-    ghost use Rattle.tk_disk.specs.MemDisk.{mem_bytes, mem_image, mem_moment, mem_faults, mem_taken, MemMayLeave, MemLeftSince, MemElapses, RunsByList};
+    ghost use Rattle.tk_disk.specs.MemDisk.{mem_bytes, mem_image, mem_moment, mem_tape, mem_faults, mem_taken, MemMayLeave, MemLeftSince, MemElapses, RunsByList};
+    ghost use Rattle.tk_disk.specs.Memory.{Grows, Stays};
+    ghost use Rattle.tk_disk.specs.declared.tape.Step.TheVariants.{Write, Cut, Sync};
     ghost use Rattle.tk_disk.specs.MemoryLaws.{mem_reads, mem_counts_now, mem_only_now};
 
     ghost image = { mem_image };
@@ -138,6 +140,7 @@ impl Disk for MemDisk {
         ensures crash { Within (MemMayLeave self.old) (MemMayLeave self.new) }
         ensures time { MemElapses self.old self.new }
         ensures exact { RunsByList 0 self.old self.new result }
+        ensures record { mem_tape self.new ≡ mem_tape self.old }
     {
         self.begin(0)?;
         Ok(self.tape.bytes().len() as u64)
@@ -152,6 +155,7 @@ impl Disk for MemDisk {
         ensures crash { Within (MemMayLeave self.old) (MemMayLeave self.new) }
         ensures time { MemElapses self.old self.new }
         ensures exact { RunsByList 0 self.old self.new result }
+        ensures record { mem_tape self.new ≡ mem_tape self.old }
     {
         self.begin(0)?;
         let n = get(self.tape.bytes(), at, into);
@@ -168,6 +172,7 @@ impl Disk for MemDisk {
         ensures crash { Follows (Torn at (length bytes.now)) (MemMayLeave self.old) (MemMayLeave self.new) }
         ensures time { MemElapses self.old self.new }
         ensures exact { RunsByList (64 + length bytes.now) self.old self.new result }
+        ensures record { OnOk result (Grows (mem_tape self.old) (mem_tape self.new) (Write at (length bytes.now)) bytes.now) }
     {
         self.begin(64 + bytes.len() as u64)?;
         self.tape.write(at, bytes);
@@ -182,6 +187,7 @@ impl Disk for MemDisk {
         ensures crash { Follows (Shortened len) (MemMayLeave self.old) (MemMayLeave self.new) }
         ensures time { MemElapses self.old self.new }
         ensures exact { RunsByList 64 self.old self.new result }
+        ensures record { OnOk result (Grows (mem_tape self.old) (mem_tape self.new) (Cut len) []) }
     {
         self.begin(64)?;
         self.tape.cut(len);
@@ -196,12 +202,14 @@ impl Disk for MemDisk {
         ensures crash { Within (MemMayLeave self.old) (MemMayLeave self.new) }
         ensures time { MemElapses self.old self.new }
         ensures exact { RunsByList 64 self.old self.new result }
+        ensures hard_record { hard ≡ true → OnOk result (Grows (mem_tape self.old) (mem_tape self.new) Sync []) }
+        ensures soft_record { hard ≡ false → OnOk result (Stays (mem_tape self.old) (mem_tape self.new)) }
     {
         self.begin(64)?;
         if hard {
-            self.tape.settle();
+            self.tape.sync_hard();
         } else {
-            self.tape.pass();
+            self.tape.sync_soft();
         }
         Ok(())
     }

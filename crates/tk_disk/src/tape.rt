@@ -1,7 +1,7 @@
 ghost use Rattle.std.specs.Prelude.{◌≡◌, ◌+◌, ◌-◌, ◌++◌, [], ◌∷◌, ◌≤◌, ◌<◌, ◌^◌, length, take, IfOk, vec_len, vec_capacity};
 ghost use Rattle.tk_disk.specs.Disk.{put_at};
 ghost use Rattle.tk_disk.specs.Crash.{Torn, Shortened, Follows, Within, Only, Elapses};
-ghost use Rattle.tk_disk.specs.Memory.{tape_bytes, MayLeave, LeftSince};
+ghost use Rattle.tk_disk.specs.Memory.{tape_bytes, MayLeave, LeftSince, Grows, Stays};
 ghost use Rattle.tk_disk.specs.Redone.{redone, EndsWithLastSync, IsKeptImage};
 ghost use Rattle.tk_disk.specs.Replay.{spent, AreWithin};
 
@@ -171,6 +171,7 @@ impl Tape {
         ensures room { self.new.room ≡ self.old.room - (64 + length bytes.now) }
         ensures crash { Follows (Torn at (length bytes.now)) (MayLeave self.old) (MayLeave self.new) }
         ensures time { Elapses (length self.old.steps) (length self.new.steps) (LeftSince self.old) (LeftSince self.new) (MayLeave self.new) }
+        ensures record { Grows self.old self.new (Step.Write at (length bytes.now)) bytes.now }
     {
         let step = Step::Write(at, bytes.len() as u64);
         put(&mut self.bytes, at as usize, bytes);
@@ -185,6 +186,7 @@ impl Tape {
         ensures room { self.new.room ≡ self.old.room - 64 }
         ensures crash { Follows (Shortened len) (MayLeave self.old) (MayLeave self.new) }
         ensures time { Elapses (length self.old.steps) (length self.new.steps) (LeftSince self.old) (LeftSince self.new) (MayLeave self.new) }
+        ensures record { Grows self.old self.new (Step.Cut len) [] }
     {
         self.bytes.truncate(len as usize);
         note(&mut self.steps, &mut self.store, Step::Cut(len), &[]);
@@ -192,25 +194,27 @@ impl Tape {
     }
 
     /// A hard sync.
-    pub fn settle(&mut self)
+    pub fn sync_hard(&mut self)
         requires room { 64 ≤ self.old.room }
         ensures bytes { tape_bytes self.new ≡ tape_bytes self.old }
         ensures room { self.new.room ≡ self.old.room - 64 }
         ensures durable { Only (tape_bytes self.old) (MayLeave self.new) }
         ensures crash { Within (MayLeave self.old) (MayLeave self.new) }
         ensures time { Elapses (length self.old.steps) (length self.new.steps) (LeftSince self.old) (LeftSince self.new) (MayLeave self.new) }
+        ensures record { Grows self.old self.new Step.Sync [] }
     {
         note(&mut self.steps, &mut self.store, Step::Sync, &[]);
         self.room -= 64;
     }
 
     /// A soft sync, which leaves all as it was.
-    pub fn pass(&mut self)
+    pub fn sync_soft(&mut self)
         requires room { 64 ≤ self.old.room }
         ensures bytes { tape_bytes self.new ≡ tape_bytes self.old }
         ensures room { self.new.room ≡ self.old.room - 64 }
         ensures crash { Within (MayLeave self.old) (MayLeave self.new) }
         ensures time { Elapses (length self.old.steps) (length self.new.steps) (LeftSince self.old) (LeftSince self.new) (MayLeave self.new) }
+        ensures record { Stays self.old self.new }
     {
         self.room -= 64;
     }

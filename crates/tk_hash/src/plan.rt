@@ -20,13 +20,12 @@ ghost use Rattle.tk_hash.specs.Plan.{with_new, with_heads, AllBelow, FitHeads, P
 
 use crate::counts::count_changes;
 use crate::links::chain_changes;
-use crate::reading::number_of_buckets;
 use std::alloc::Global;
 use tk_append::GroupLog;
 use tk_block::{LinkList, StaticHead};
 use tk_disk::{Disk, DiskError};
 use tk_model::{Change, ChangeList, NoMemory};
-use tk_store::StoreError;
+use tk_store::{StoreError, number_of_buckets};
 
 /// A bucket's newest block.
 #[derive(Clone, Copy, Debug, PartialEq, Eq)]

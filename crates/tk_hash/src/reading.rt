@@ -15,14 +15,6 @@ use tk_disk::{Disk, zeros};
 use tk_model::{Bytes, Change, NoMemory, Pair};
 use tk_store::StoreError;
 
-/// The number of buckets.
-pub(crate) fn number_of_buckets(p: u8) -> u64
-    requires { p ≤ 24 }
-    ensures { result ≡ 2 ^ p }
-{
-    1 << p
-}
-
 /// The head of a bucket in the file.
 pub(crate) fn head_at<D: Disk>(disk: &mut D, bucket: u64) -> Result<u64, StoreError>
     requires bucket { bucket < 2 ^ 24 }

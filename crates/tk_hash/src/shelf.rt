@@ -8,18 +8,17 @@ ghost use Rattle.tk_model.specs.declared.record.Group.{Group};
 ghost use Rattle.tk_store.specs.Store.{HasCause, NeverFull};
 ghost use Rattle.tk_block.specs.Layout.{Placed};
 ghost use Rattle.tk_append.specs.FileText.{IsFile};
-ghost use Rattle.tk_store.specs.Hashed.{start_of, end_of};
 ghost use Rattle.tk_hash.specs.Chain.{in_bucket};
 ghost use Rattle.tk_hash.specs.Seek.{IsShelf};
 ghost use Rattle.tk_hash.specs.Shelf.{AllStand, HasBucket, places_in, left_by};
 
-use crate::reading::{change_at, filled_below, next_filled, number_of_buckets};
+use crate::reading::{change_at, filled_below, next_filled};
 use std::alloc::Global;
 use tk_block::StaticHead;
 use tk_buckets::chain;
 use tk_disk::Disk;
-use tk_model::{Bound, NoMemory, Pair, bucket, mix};
-use tk_store::{HashedRecords, StoreError};
+use tk_model::{Bound, NoMemory, Pair};
+use tk_store::{HashedRecords, StoreError, end_bucket, first_bucket, number_of_buckets};
 
 /// The records of a bucket, as they were read.
 #[derive(Drop)]
@@ -203,30 +202,6 @@ fn last_in<D: Disk>(
     Ok(last_on(shelf, bound)?)
 }
 
-/// Where a search up begins.
-fn start_at(bound: &Bound, p: u8) -> u64
-    requires { p ≤ 24 }
-    ensures value { result ≡ start_of p bound.now }
-    ensures below { result ≤ 2 ^ p }
-{
-    match bound {
-        Bound::Edge => 0,
-        Bound::Over(key) | Bound::From(key) => bucket(mix(key.as_slice()), p),
-    }
-}
-
-/// Behind where a search down begins.
-fn end_at(bound: &Bound, p: u8) -> u64
-    requires { p ≤ 24 }
-    ensures value { result ≡ end_of p bound.now }
-    ensures below { result ≤ 2 ^ p }
-{
-    match bound {
-        Bound::Edge => number_of_buckets(p),
-        Bound::Over(key) | Bound::From(key) => bucket(mix(key.as_slice()), p) + 1,
-    }
-}
-
 /// The first record within the bound, going up. What was read of its bucket stays on the shelf.
 pub(crate) fn first_record<D: Disk>(
     alloc: Global,
@@ -246,7 +221,7 @@ pub(crate) fn first_record<D: Disk>(
     ensures never { NeverFull result }
 {
     let end = number_of_buckets(head.p);
-    let mut bucket = start_at(bound, head.p);
+    let mut bucket = first_bucket(bound, head.p);
     while bucket < end {
         let found = first_in(alloc, disk, head, shelf, bucket, bound)?;
         if found.is_some() {
@@ -275,7 +250,7 @@ pub(crate) fn last_record<D: Disk>(
     ensures cause { HasCause (D.fault_count disk.old) (D.fault_count disk.new) result }
     ensures never { NeverFull result }
 {
-    let mut end = end_at(bound, head.p);
+    let mut end = end_bucket(bound, head.p);
     while end > 0 {
         let found = last_in(alloc, disk, head, shelf, end - 1, bound)?;
         if found.is_some() {

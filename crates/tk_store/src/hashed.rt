@@ -73,7 +73,8 @@ fn bucket_at(key: &[u8], p: u8) -> usize
     bucket(mix(key), p) as usize
 }
 
-fn number_of_buckets(p: u8) -> usize
+/// The number of buckets.
+pub fn number_of_buckets(p: u8) -> u64
     requires { p ≤ 24 }
     ensures { result ≡ 2 ^ p }
 {
@@ -212,27 +213,27 @@ fn last_in<'a>(pairs: &'a [Pair], bound: &Bound) -> Option<&'a Pair>
     None
 }
 
-/// Where a search up begins.
-fn start_at(bound: &Bound, p: u8) -> usize
+/// The first bucket that can have a record within a bound, on the way up.
+pub fn first_bucket(bound: &Bound, p: u8) -> u64
     requires { p ≤ 24 }
     ensures value { result ≡ start_of p bound.now }
     ensures below { result ≤ 2 ^ p }
 {
     match bound {
         Bound::Edge => 0,
-        Bound::Over(key) | Bound::From(key) => bucket_at(key.as_slice(), p),
+        Bound::Over(key) | Bound::From(key) => bucket(mix(key.as_slice()), p),
     }
 }
 
-/// Behind where a search down begins.
-fn end_at(bound: &Bound, p: u8) -> usize
+/// The bucket behind the last that can have a record within a bound, on the way down.
+pub fn end_bucket(bound: &Bound, p: u8) -> u64
     requires { p ≤ 24 }
     ensures value { result ≡ end_of p bound.now }
     ensures below { result ≤ 2 ^ p }
 {
     match bound {
         Bound::Edge => number_of_buckets(p),
-        Bound::Over(key) | Bound::From(key) => bucket_at(key.as_slice(), p) + 1,
+        Bound::Over(key) | Bound::From(key) => bucket(mix(key.as_slice()), p) + 1,
     }
 }
 
@@ -266,7 +267,7 @@ impl HashedRecords {
         requires { p ≤ 24 }
         ensures { IfOk result (λ r. r ≡ []) }
     {
-        let buckets = empty_buckets(alloc, number_of_buckets(p))?;
+        let buckets = empty_buckets(alloc, number_of_buckets(p) as usize)?;
         Ok(HashedRecords {
             p,
             buckets,
@@ -333,16 +334,16 @@ impl HashedRecords {
     pub fn first_within(&self, bound: &Bound) -> Option<&Pair>
         ensures { option_copied result ≡ first_within Hash bound.now self.now }
     {
-        let start = start_at(bound, self.p);
-        first_from(self.buckets.as_slice(), start, bound)
+        let start = first_bucket(bound, self.p);
+        first_from(self.buckets.as_slice(), start as usize, bound)
     }
 
     /// The first record within a bound on the way down.
     pub fn last_within(&self, bound: &Bound) -> Option<&Pair>
         ensures { option_copied result ≡ last_within Hash bound.now self.now }
     {
-        let end = end_at(bound, self.p);
-        last_before(self.buckets.as_slice(), end, bound)
+        let end = end_bucket(bound, self.p);
+        last_before(self.buckets.as_slice(), end as usize, bound)
     }
 
     /// The records stand in hash order.

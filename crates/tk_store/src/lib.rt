@@ -9,7 +9,7 @@ mod run;
 mod store;
 
 pub use error::StoreError;
-pub use hashed::HashedRecords;
+pub use hashed::{HashedRecords, end_bucket, first_bucket, number_of_buckets};
 pub use run::run_on;
 pub use store::SeqStore;
 pub use tk_model::{OpenError, ShardOf, Unopened};

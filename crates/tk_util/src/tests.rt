@@ -5,7 +5,7 @@ ghost use Rattle.tk_disk.specs.MemFolder.{folder_is_out};
 use super::*;
 use std::alloc::{AllocError, Global};
 use std::test::Fail;
-use tk_disk::{MemDisk, MemFolder};
+use tk_disk::{Folder, MemDisk, MemFolder};
 use tk_io::{MemSink, MemSource};
 use tk_model::{Bytes, FaultList, NoMemory, fnv64};
 use tk_status::Finish;
@@ -152,6 +152,19 @@ fn a_file_of_other_bytes(rt: HostRuntime) -> Result<(), Fail> {
         run_in(alloc, &set, &mut folder),
         (Finish::refused(0, 0), Some((1, fnv64(b"?"))))
     );
+    Ok(())
+}
+
+#[test]
+fn a_refused_file_that_is_not_given_back(rt: HostRuntime) -> Result<(), Fail> {
+    let alloc = rt.alloc();
+    let get = words(alloc, &["get", "x.tkh", "a"])?;
+    let mut folder = MemFolder::new(alloc, 100_000, list_of(alloc, &[1])?);
+    let bytes = Bytes::from_slice(alloc, b"?")?;
+    let disk = MemDisk::new(alloc, bytes, 100_000, list_of(alloc, &[])?)?;
+    folder.add("x.tkh", disk)?;
+    assert_eq!(rt; run_in(alloc, &get, &mut folder).0, Finish::refused(0, 0));
+    assert_eq!(rt; folder.faults(), 1);
     Ok(())
 }
 

@@ -9,9 +9,9 @@ use Rattle.tk_hash.proofs.shelf.first_record.Goals as goal
 
 pub loop-bucket-init : goal.loop-bucket-init
 loop-bucket-init g c = record {
-  up = λ groups. begins_up c.args.head.now groups c.args.bound.now (g.D.Disk.image c.args.disk.now) c.args.shelf.now c.start_at-bucket.result c.start_at-bucket.ensures.value;
+  up = λ groups. begins_up c.args.head.now groups c.args.bound.now (g.D.Disk.image c.args.disk.now) c.args.shelf.now c.first_bucket-bucket.result c.first_bucket-bucket.ensures.value;
   shelf = λ groups. shelf_same (g.D.Disk.image c.args.disk.now) c.args.head.now groups c.args.shelf.now;
-  most = c.start_at-bucket.ensures.below;
+  most = c.first_bucket-bucket.ensures.below;
   image = refl;
   still = nothing_read g.D.Disk.may_leave g.D.Disk.moment g.D.Disk.left_since c.args.disk.now;
   taken = omega arith;

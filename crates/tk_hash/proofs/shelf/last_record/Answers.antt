@@ -9,9 +9,9 @@ use Rattle.tk_hash.proofs.shelf.last_record.Goals as goal
 
 pub loop-end-init : goal.loop-end-init
 loop-end-init g c = record {
-  down = λ groups. begins_down c.args.head.now groups c.args.bound.now (g.D.Disk.image c.args.disk.now) c.args.shelf.now c.end_at-end.result c.requires.p c.end_at-end.ensures.value;
+  down = λ groups. begins_down c.args.head.now groups c.args.bound.now (g.D.Disk.image c.args.disk.now) c.args.shelf.now c.end_bucket-end.result c.requires.p c.end_bucket-end.ensures.value;
   shelf = λ groups. shelf_same (g.D.Disk.image c.args.disk.now) c.args.head.now groups c.args.shelf.now;
-  most = c.end_at-end.ensures.below;
+  most = c.end_bucket-end.ensures.below;
   image = refl;
   still = nothing_read g.D.Disk.may_leave g.D.Disk.moment g.D.Disk.left_since c.args.disk.now;
   taken = omega arith;

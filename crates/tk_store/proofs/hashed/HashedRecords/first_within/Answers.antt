@@ -10,6 +10,6 @@ returns c =
     let bound = c.args.bound.now in
     let bs = c.self.inside.buckets.items in
     c.first_from.ensures
-    ∙ ap (λ m. first_within Hash bound (joined (drop c.start_at-start.result m))) c.as_slice.ensures.value
-    ∙ ap (λ i. first_within Hash bound (joined (drop i bs))) c.start_at-start.ensures.value
+    ∙ ap (λ m. first_within Hash bound (joined (drop c.first_bucket-start.result m))) c.as_slice.ensures.value
+    ∙ ap (λ i. first_within Hash bound (joined (drop i bs))) c.first_bucket-start.ensures.value
     ∙ from_start c.self.inside.p bs c.self.inside.count bound c.self.invariant ∙ ap (first_within Hash bound) c.self.view_is

@@ -10,6 +10,6 @@ returns c =
     let bound = c.args.bound.now in
     let bs = c.self.inside.buckets.items in
     c.last_before.ensures
-    ∙ ap (λ m. last_within Hash bound (joined (take c.end_at-end.result m))) c.as_slice.ensures.value
-    ∙ ap (λ i. last_within Hash bound (joined (take i bs))) c.end_at-end.ensures.value
-    ∙ before_end c.self.inside.p bs c.self.inside.count bound c.self.invariant (subst (λ i. i ≤ 2 ^ c.self.inside.p) c.end_at-end.ensures.value c.end_at-end.ensures.below) ∙ ap (last_within Hash bound) c.self.view_is
+    ∙ ap (λ m. last_within Hash bound (joined (take c.end_bucket-end.result m))) c.as_slice.ensures.value
+    ∙ ap (λ i. last_within Hash bound (joined (take i bs))) c.end_bucket-end.ensures.value
+    ∙ before_end c.self.inside.p bs c.self.inside.count bound c.self.invariant (subst (λ i. i ≤ 2 ^ c.self.inside.p) c.end_bucket-end.ensures.value c.end_bucket-end.ensures.below) ∙ ap (last_within Hash bound) c.self.view_is
