@@ -1,10 +1,10 @@
 ghost use Rattle.std.specs.Prelude.{◌≡◌, ◌≢◌, ◌≤◌, ◌<◌, ◌+◌, ◌-◌, ◌^◌, ◌++◌, ◌∷◌, ◌==◌, ◌&&◌, not, nat_lt, ℕ, List, [], length, take, Option, IfOk, IfSome, OnOk, OnErr, Some, Ok, Err, true, false, if◌then◌else◌, sum_by};
 ghost use Rattle.std.specs.Option.{is_some};
 ghost use Rattle.tk_disk.specs.Crash.{Only};
-ghost use Rattle.tk_model.specs.Records.{AllFit, IsClearAlone};
+ghost use Rattle.tk_model.specs.Records.{find, AllFit, IsClearAlone};
 ghost use Rattle.tk_model.specs.declared.record.Group.{Group};
 ghost use Rattle.tk_model.specs.declared.record.Change.{Change as Changed};
-ghost use Rattle.tk_store.specs.Store.{First, made, extent_of as change_extent, HasCause, NeverFull, OkOrFault, IsWhole, Keeps, KeepsSince, LeavesSafe};
+ghost use Rattle.tk_store.specs.Store.{First, made, extent_of as change_extent, HasCause, NeverFull, OkOrFault, IsWhole, GivesInto, Keeps, KeepsSince, LeavesSafe};
 ghost use Rattle.tk_append.specs.Log.{closed_text};
 
 use crate::plan::{NewHeads, plan_changes, put_heads};
@@ -291,7 +291,20 @@ impl<D: Disk> SeqStore for HashStore<D> {
         )
     }
 
-    fn get_into(&mut self, key: &[u8], into: &mut [u8]) -> Result<Option<u32>, StoreError> {
+    fn get_into(&mut self, key: &[u8], into: &mut [u8]) -> Result<Option<u32>, StoreError>
+        requires whole { IsWhole (HashStands D.image D.may_leave) self.old }
+        ensures value { IfSome (hash_shown D.image self.old).map (λ m. IfOk result (GivesInto (find key.now m) into.old into.new)) }
+        ensures cost { IfSome ((hash_shown D.image self.old).cost key.now) (λ most. D.taken_count (hash_disk self.new) ≤ D.taken_count (hash_disk self.old) + most) }
+        ensures nature { hash_nature self.new ≡ hash_nature self.old }
+        ensures shown { hash_shown D.image self.new ≡ hash_shown D.image self.old }
+        ensures stands { Keeps (HashStands D.image D.may_leave) self.old self.new }
+        ensures since { KeepsSince (HashStood D.image D.may_leave D.moment D.left_since) self.old self.new }
+        ensures time { D.moment (hash_disk self.old) ≤ D.moment (hash_disk self.new) }
+        ensures reads { (hash_nature self.old).writable ≡ false → HashUntouched D.image D.may_leave D.moment D.left_since self.old self.new }
+        ensures taken { D.taken_count (hash_disk self.old) ≤ D.taken_count (hash_disk self.new) }
+        ensures cause { HasCause (D.fault_count (hash_disk self.old)) (D.fault_count (hash_disk self.new)) result }
+        ensures answers { OkOrFault result }
+    {
         let head = *self.log.head();
         get_value_into(self.log.disk(), &head, &mut self.buffer, key, into)
     }
