@@ -157,9 +157,9 @@ module _ {D : Type 0} (image : D → Option (List ℕ)) (may_leave : D → List 
     header_there = IfSome_then (image (log_disk s.log)) length_there (λ f long. omega (arith, long, base_within))
 
     -- what waits, and that close was called, is no part of what a store stands for
-    pub restaged : (o : Option Staged) (b : Bool) → HashStands image may_leave (record s { staged = o; closed = b }) first since hard
-    restaged o b = rested image may_leave s (record s { staged = o; closed = b }) first since hard hard st
-        (record { head = refl; end = refl; closing = refl; count = refl; next = refl; last = refl; writable = refl; buffer = refl; bytes = refl }) (shelf_same image s) st.synced st.kept
+    pub restaged : (o : Option Staged) (b : Bool) → (b ≡ false → s.closed ≡ false) → HashStands image may_leave (record s { staged = o; closed = b }) first since hard
+    restaged o b unclosed = rested image may_leave s (record s { staged = o; closed = b }) first since hard hard st
+        (record { head = refl; end = refl; closing = refl; count = refl; next = refl; last = refl; writable = refl; closed = unclosed; buffer = refl; bytes = refl }) (shelf_same image s) st.synced st.kept
 
     -- where its groups end
     pub groups_end : log_end s.log ≡ end_of (base_of (log_head s.log).p) (bodies_of (groups_held first.held ++ since))
@@ -195,10 +195,10 @@ module _ {D : Type 0} (image : D → Option (List ℕ)) (may_leave : D → List 
   map_kept s t first since hard now told old new =
       map_is image may_leave t first since now new ∙ same_mapped (image (log_disk s.log)) (image (log_disk t.log)) (replay Hash since first.records) told ∙ sym (map_is image may_leave s first since hard old)
 
-  pub stood_staged : (moment : D → ℕ) (left_since : D → ℕ → List ℕ → Type 0) (s : HashStore D) (o : Option Staged) (b : Bool) (since_when n : ℕ) (first : First) (since : List Group) (hard : ℕ) → HashStood image may_leave moment left_since s since_when n first since hard
+  pub stood_staged : (moment : D → ℕ) (left_since : D → ℕ → List ℕ → Type 0) (s : HashStore D) (o : Option Staged) (b : Bool) → (b ≡ false → s.closed ≡ false) → (since_when n : ℕ) (first : First) (since : List Group) (hard : ℕ) → HashStood image may_leave moment left_since s since_when n first since hard
       → HashStood image may_leave moment left_since (record s { staged = o; closed = b }) since_when n first since hard
-  stood_staged moment left_since s o b since_when n first since hard st = record {
-    stands = restaged s first since hard st.stands o b;
+  stood_staged moment left_since s o b unclosed since_when n first since hard st = record {
+    stands = restaged s first since hard st.stands o b unclosed;
     safe = record { within = st.safe.within; each = st.safe.each; kept = st.safe.kept };
     least = st.least;
     before = st.before;
@@ -240,12 +240,12 @@ module _ {D : Type 0} (image : D → Option (List ℕ)) (may_leave : D → List 
   -- the store after a group
   pub grown : (moment : D → ℕ) (left_since : D → ℕ → List ℕ → Type 0) (s t : HashStore D) (g : Staged) (n : ℕ) (cs : List Change) (mid : Option (List ℕ)) (first : First) (since : List Group) (hard : ℕ)
       → (is : IsStaged image s cs g) → AllFit cs → IsClearAlone cs → s.writable ≡ true → floor_of s.next s.last ≤ n → n < 2 ^ 64 → HashStands image may_leave s first since hard
-      → log_head t.log ≡ log_head s.log → log_end t.log ≡ end_of (log_end s.log) (group_bodies n cs) → t.count ≡ g.count → t.last ≡ Some n → t.next ≡ s.next → t.writable ≡ s.writable → t.closing ≡ s.closing → t.buffer.items ≡ s.buffer.items → t.shelf ≡ None
+      → log_head t.log ≡ log_head s.log → log_end t.log ≡ end_of (log_end s.log) (group_bodies n cs) → t.count ≡ g.count → t.last ≡ Some n → t.next ≡ s.next → t.writable ≡ s.writable → t.closing ≡ s.closing → t.closed ≡ s.closed → t.buffer.items ≡ s.buffer.items → t.shelf ≡ None
       → is_some (image (log_disk t.log)) ≡ is_some (image (log_disk s.log)) → mid ≡ option_map (λ f. f ++ group_text (record { number = n; changes = cs }) (log_end s.log) is.links) (image (log_disk s.log))
       → PutsHeads mid (image (log_disk t.log)) (log_head s.log) g.heads
       → KeepsGroups may_leave moment left_since (log_head s.log) (groups_held first.held ++ take hard since) (log_disk s.log) (log_disk t.log)
       → HashStands image may_leave t first (since ++ record { number = n; changes = cs } ∷ []) hard
-  grown moment left_since s t g n cs mid first since hard is fits alone may above small st head end count last next writable closing buffer shelf told appended puts keeps =
+  grown moment left_since s t g n cs mid first since hard is fits alone may above small st head end count last next writable closing closed buffer shelf told appended puts keeps =
       let more : Group = record { number = n; changes = cs } in
       let h : StaticHead = log_head s.log in
       let o : Option (List ℕ) = image (log_disk s.log) in
@@ -274,6 +274,7 @@ module _ {D : Type 0} (image : D → Option (List ℕ)) (may_leave : D → List 
         end_is = end ∙ ends ∙ ap (λ (l : List Group). end_of (base_of h.p) (bodies_of l)) joined ∙ ap (λ (k : StaticHead). end_of (base_of k.p) (bodies_of (st.groups ++ (since ++ more ∷ [])))) (sym head);
         end_fits = omega (arith, end, is.ends n);
         buffer = subst (λ (l : List ℕ). 131072 ≤ length l) (sym buffer) st.buffer;
+        mark = λ _ unclosed. closing ∙ st.mark may (sym closed ∙ unclosed);
         no_group = λ no. absurd (cc (no, writable, may));
         there = subst (λ (k : StaticHead). IfSome (image (log_disk t.log)) (λ f. f ≡ text_of k t.closing (st.groups ++ (since ++ more ∷ [])))) (sym head)
             (subst (λ (k : Closing). IfSome (image (log_disk t.log)) (λ f. f ≡ text_of h k (st.groups ++ (since ++ more ∷ [])))) (sym closing)
@@ -299,9 +300,9 @@ module _ {D : Type 0} (image : D → Option (List ℕ)) (may_leave : D → List 
 
   -- the store after another closing part
   pub marked : (s t : HashStore D) (new : Closing) (first : First) (since : List Group) (hard : ℕ) → s.writable ≡ true → HashStands image may_leave s first since hard → log_head t.log ≡ log_head s.log → log_end t.log ≡ log_end s.log → t.closing ≡ new
-      → t.count ≡ s.count → t.next ≡ s.next → t.last ≡ s.last → t.writable ≡ s.writable → t.buffer.items ≡ s.buffer.items → t.shelf ≡ s.shelf
+      → t.count ≡ s.count → t.next ≡ s.next → t.last ≡ s.last → t.writable ≡ s.writable → t.buffer.items ≡ s.buffer.items → t.shelf ≡ s.shelf → t.closed ≡ true
       → image (log_disk t.log) ≡ option_map (with_closing new) (image (log_disk s.log)) → IfSome (image (log_disk t.log)) (λ f. Only f (may_leave (log_disk t.log))) → HashStands image may_leave t first since (length since)
-  marked s t new first since hard may st head end closing count next last writable buffer shelf written only =
+  marked s t new first since hard may st head end closing count next last writable buffer shelf closed written only =
       let h : StaticHead = log_head s.log in
       let o : Option (List ℕ) = image (log_disk s.log) in
       let all : List Group = st.groups ++ since in
@@ -323,6 +324,7 @@ module _ {D : Type 0} (image : D → Option (List ℕ)) (may_leave : D → List 
         end_is = rw (end, head) st.end_is;
         end_fits = rw end st.end_fits;
         buffer = rw buffer st.buffer;
+        mark = λ _ unclosed. absurd (cc (closed, unclosed));
         no_group = rw writable st.no_group;
         there = rw (head, closing) texts;
         count = rw count (carried o (image (log_disk t.log)) told st.count (λ same. same));

@@ -56,13 +56,14 @@ pub record SameFile {D : Type 0} (image : D → Option (List ℕ)) (s t : HashSt
   pub next : t.next ≡ s.next
   pub last : t.last ≡ s.last
   pub writable : t.writable ≡ s.writable
+  pub closed : t.closed ≡ false → s.closed ≡ false
   pub buffer : length t.buffer.items ≡ length s.buffer.items
   pub bytes : image (log_disk t.log) ≡ image (log_disk s.log)
 
 -- a store whose disk was lent and read
-pub same_read : {D : Type 0} (image : D → Option (List ℕ)) (s t : HashStore D) (lent : D) → lent ≡ log_disk s.log → log_head t.log ≡ log_head s.log → log_end t.log ≡ log_end s.log → t.closing ≡ s.closing → t.count ≡ s.count → t.next ≡ s.next → t.last ≡ s.last
+pub same_read : {D : Type 0} (image : D → Option (List ℕ)) (s t : HashStore D) (lent : D) → lent ≡ log_disk s.log → (t.closed ≡ false → s.closed ≡ false) → log_head t.log ≡ log_head s.log → log_end t.log ≡ log_end s.log → t.closing ≡ s.closing → t.count ≡ s.count → t.next ≡ s.next → t.last ≡ s.last
     → t.writable ≡ s.writable → length t.buffer.items ≡ length s.buffer.items → image (log_disk t.log) ≡ image lent → SameFile image s t
-same_read image s t lent at head end closing count next last writable buffer bytes = record {
+same_read image s t lent at closed head end closing count next last writable buffer bytes = record {
   head = head;
   end = end;
   closing = closing;
@@ -70,6 +71,7 @@ same_read image s t lent at head end closing count next last writable buffer byt
   next = next;
   last = last;
   writable = writable;
+  closed = closed;
   buffer = buffer;
   bytes = bytes ∙ ap image at;
 }
@@ -123,6 +125,7 @@ module _ {D : Type 0} (image : D → Option (List ℕ)) (may_leave : D → List 
     end_is = rw (same.end, same.head) st.end_is;
     end_fits = rw same.end st.end_fits;
     buffer = rw same.buffer st.buffer;
+    mark = λ may unclosed. same.closing ∙ st.mark (sym same.writable ∙ may) (same.closed unclosed);
     no_group = rw same.writable st.no_group;
     there = rw (same.bytes, same.head, same.closing) st.there;
     count = rw (same.bytes, same.count) st.count;

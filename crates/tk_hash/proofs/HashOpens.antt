@@ -105,6 +105,7 @@ module _ {D : Type 0} (image : D → Option (List ℕ)) (may_leave : D → List 
         end_is = rw (end, head, same) is.end_is;
         end_fits = rw end is.fits;
         buffer = buffer;
+        mark = λ may unclosed. o.open_closing may;
         no_group = λ no. refl;
         there = rw (head, same) texts;
         count = always (image (log_disk s.log)) _ (rw (count, same) is.count);

@@ -15,7 +15,7 @@ use Rattle.tk_block.specs.declared.head.StaticHead.{StaticHead}
 use Rattle.tk_append.specs.Chains.{HeadsAre}
 use Rattle.tk_append.specs.declared.log.GroupLog.{GroupLog}
 use Rattle.tk_append.specs.Log.{AreGroups, blocks_of}
-use Rattle.tk_append.specs.LogParts.{log_disk, log_head, log_end, IsReady}
+use Rattle.tk_append.specs.LogParts.{log_disk, log_head, log_end, open_mark, IsReady}
 use Rattle.tk_append.specs.Restored.{groups_in, restored_groups, IsUntorn, IsKept}
 use Rattle.tk_append.specs.FileText.{text_of, IsFile}
 use Rattle.tk_hash.specs.Chain.{cost_in}
@@ -133,6 +133,8 @@ module _ {D : Type 0} where
     pub end_is : log_end s.log ≡ end_of (base_of (log_head s.log).p) (bodies_of (groups ++ since))
     pub end_fits : log_end s.log < 2 ^ 64
     pub buffer : 131072 ≤ length s.buffer.items
+    -- a file that is written is marked as open until it is closed
+    pub mark : s.writable ≡ true → s.closed ≡ false → s.closing ≡ open_mark
     -- a file that is read alone gets no group and keeps its closing part
     pub no_group : s.writable ≡ false → since ≡ []
     pub there : IfSome (image (log_disk s.log)) (λ f. f ≡ text_of (log_head s.log) s.closing (groups ++ since))

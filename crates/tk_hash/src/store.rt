@@ -155,6 +155,7 @@ impl<D: Disk> HashStore<D> {
     fn end_file(&mut self, next: u64) -> Result<(), StoreError>
         requires whole { IsWhole (HashStands D.image D.may_leave) self.old }
         requires writable { (hash_nature self.old).writable ≡ true }
+        requires closed { (hash_shown D.image self.old).closed ≡ true }
         ensures stands { (first : First) (since : List Group) (hard : ℕ) → HashStands D.image D.may_leave self.old first since hard
             → OnOk result (HashStands D.image D.may_leave self.new first since (length since)) }
         ensures kept { (first : First) (since : List Group) (hard : ℕ) → HashStands D.image D.may_leave self.old first since hard

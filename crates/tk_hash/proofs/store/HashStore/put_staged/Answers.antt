@@ -49,7 +49,7 @@ returns-clause-stands g c changes is fits alone first since hard st =
     grown g.D.Disk.image g.D.Disk.may_leave g.D.Disk.moment g.D.Disk.left_since s _ c.args.staged c.args.number changes (g.D.Disk.image (log_disk c.append.new.self)) first since hard is fits alone c.requires.writable c.requires.number (omega arith) st
     (c.put_heads.ensures.head ∙ c.append.ensures.head)
     (c.put_heads.ensures.end ∙ done c.append.result c.told.result c.in_ok-told.field-0 c.told.ensures.err (search rules) (c.append.ensures.end changes is.links is.ready))
-    refl refl refl refl refl refl refl (c.put_heads.ensures.told ∙ c.append.ensures.told)
+    refl refl refl refl refl refl refl refl (c.put_heads.ensures.told ∙ c.append.ensures.told)
     (done c.append.result c.told.result c.in_ok-told.field-0 c.told.ensures.err (search rules) (c.append.ensures.written changes is.links is.ready))
     (puts_done c.put_heads.result c.told-2.result c.in_ok-told-2.field-0 _ _ (log_head s.log) _ c.args.staged.heads c.append.ensures.head c.told-2.ensures.err (search rules) c.put_heads.ensures.written)
     (returns-clause-kept g c first since hard st)

@@ -22,13 +22,13 @@ module _ (g : Given.Over) (c : goal.After-put_staged g) (changes : List Change) 
     stands_more : OnOk c.put_staged.result (HashStands g.D.Disk.image g.D.Disk.may_leave c.put_staged.new.self first (since ++ record { number = c.args.number; changes = changes } ∷ []) hard)
     stands_more =
         c.put_staged.ensures.stands changes (staged_still g.D.Disk.image g.D.Disk.may_leave c.args.self.now c.take.new.self changes c.in-Some.staged is_staged) p.fit p.alone first since hard
-        (restaged g.D.Disk.image g.D.Disk.may_leave c.args.self.now first since hard st c.take.new.self c.args.self.now.closed)
+        (restaged g.D.Disk.image g.D.Disk.may_leave c.args.self.now first since hard st c.take.new.self c.args.self.now.closed (λ unclosed. unclosed))
 
     stands_made : OnOk c.put_staged.result (HashStands g.D.Disk.image g.D.Disk.may_leave c.put_staged.new.self first (since ++ made (hash_nature c.args.self.now) c.args.number changes) hard)
     stands_made = subst (λ (l : List Group). OnOk c.put_staged.result (HashStands g.D.Disk.image g.D.Disk.may_leave c.put_staged.new.self first (since ++ l) hard)) (one_made (hash_nature c.args.self.now) c.args.number changes is_staged.some) stands_more
 
     keeps : KeepsGroups g.D.Disk.may_leave g.D.Disk.moment g.D.Disk.left_since (log_head c.args.self.now.log) (groups_held first.held ++ take hard since) (log_disk c.args.self.now.log) (log_disk c.put_staged.new.self.log)
-    keeps = c.put_staged.ensures.kept first since hard (restaged g.D.Disk.image g.D.Disk.may_leave c.args.self.now first since hard st c.take.new.self c.args.self.now.closed)
+    keeps = c.put_staged.ensures.kept first since hard (restaged g.D.Disk.image g.D.Disk.may_leave c.args.self.now first since hard st c.take.new.self c.args.self.now.closed (λ unclosed. unclosed))
 
 pub returns-in-Some-clause-stands : goal.returns-in-Some-clause-stands
 returns-in-Some-clause-stands g c changes p first since hard st = stands_made g c changes p first since hard st
