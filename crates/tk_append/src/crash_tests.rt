@@ -4,12 +4,12 @@ ghost use Rattle.tk_disk.specs.MemDisk.{mem_bytes};
 ghost use Rattle.tk_append.specs.LogParts.{log_disk, log_end};
 
 use super::*;
-use crate::tests::{ALONE, fresh_disk};
+use crate::tests::{ALONE, add as add_record, fresh_disk, head_of};
 use std::alloc::Global;
 use std::test::Fail;
 use tk_block::LinkList;
 use tk_disk::MemDisk;
-use tk_model::{Bytes, Change, ChangeList, Group, NoMemory, Pair};
+use tk_model::{Bytes, Change, ChangeList, FaultList, Group, NoMemory, OpenError, Pair, PairList};
 
 /// A set of one key, and a remove of another.
 fn changes_of(alloc: Global, set: u8, removed: u8) -> Result<ChangeList, NoMemory>
@@ -103,6 +103,39 @@ fn each_crash_leaves_a_front(rt: HostRuntime) -> Result<(), Fail> {
         };
         assert_eq!(rt; groups.len(), count, "at {keep}");
         assert!(rt; is_front(groups.as_slice()), "at {keep}");
+    }
+    Ok(())
+}
+
+/// The disk of a fresh file of one record, whose writing failed at a call.
+fn cut_short(alloc: Global, call: u64) -> Result<MemDisk, Fail> {
+    let mut faults = FaultList::new(alloc);
+    faults.push(call)?;
+    let mut disk = MemDisk::new(alloc, Bytes::new(alloc), 10_000, faults)?;
+    let mut pairs = PairList::new(alloc);
+    add_record(alloc, &mut pairs, b"a", b"1")?;
+    let _ = write_fresh(alloc, &mut disk, &head_of(1, 0), &pairs);
+    Ok(disk)
+}
+
+/// A file is no database, or its closing part is torn, or it is whole.
+fn is_none_or_whole(alloc: Global, bytes: Bytes) -> Result<bool, Fail> {
+    let mut disk = MemDisk::new(alloc, bytes, 0, FaultList::new(alloc))?;
+    match check_all(alloc, &mut disk, true, ALONE) {
+        Ok(_) | Err(OpenError::NotADatabase) | Err(OpenError::BrokenAt(32)) => Ok(true),
+        Err(_) => Ok(false),
+    }
+}
+
+#[test]
+fn a_crash_leaves_no_half_of_a_fresh_file(rt: HostRuntime) -> Result<(), Fail> {
+    let alloc = rt.alloc();
+    for call in 0..4 {
+        let disk = cut_short(alloc, call)?;
+        for keep in 0..=130 {
+            let image = disk.crash(alloc, keep)?;
+            assert!(rt; is_none_or_whole(alloc, image)?, "call {call} at {keep}");
+        }
     }
     Ok(())
 }

@@ -8,7 +8,7 @@ use tk_block::StaticHead;
 use tk_disk::MemDisk;
 use tk_model::{Bytes, FaultList, NoMemory, OpenError, Pair, PairList, ShardOf, fnv64};
 
-fn head_of(kind: u8, p: u8) -> StaticHead
+pub(crate) fn head_of(kind: u8, p: u8) -> StaticHead
     ensures { result ≡ record { kind = kind; version = 1; p = p; order = 0; generation = 0 } }
 {
     StaticHead {
@@ -26,7 +26,12 @@ fn empty_disk(alloc: Global) -> Result<MemDisk, NoMemory>
     MemDisk::new(alloc, Bytes::new(alloc), 4_000_000, FaultList::new(alloc))
 }
 
-fn add(alloc: Global, pairs: &mut PairList, key: &[u8], value: &[u8]) -> Result<(), NoMemory>
+pub(crate) fn add(
+    alloc: Global,
+    pairs: &mut PairList,
+    key: &[u8],
+    value: &[u8],
+) -> Result<(), NoMemory>
     ensures { OnOk result (pairs.new ≡ pairs.old ++ record { key = key.now; value = value.now } ∷ []) }
 {
     let key = Bytes::from_slice(alloc, key)?;
