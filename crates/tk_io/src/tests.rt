@@ -111,6 +111,27 @@ fn a_writer_is_a_sink(rt: HostRuntime) {
     assert_eq!(rt; sink.write_all(b"d"), Ok(()));
 }
 
+/// Takes all bytes, and can't hand them on.
+#[derive(Drop)]
+struct Stuck;
+
+impl Write for Stuck {
+    fn write(&mut self, buf: &[u8]) -> io::Result<usize> {
+        Ok(buf.len())
+    }
+
+    fn flush(&mut self) -> io::Result<()> {
+        Err(io::Error::from(io::ErrorKind::BrokenPipe))
+    }
+}
+
+#[test]
+fn a_writer_is_flushed(rt: HostRuntime) {
+    let mut sink = StdSink::new(Stuck);
+    assert_eq!(rt; sink.write_all(b"a"), Err(IoError::Fault));
+    assert_eq!(rt; sink.faults(), 1);
+}
+
 /// Through the traits alone.
 fn copy<S: Source, K: Sink>(source: &mut S, sink: &mut K) -> Result<(), IoError> {
     let mut block = [0; 4];

@@ -1,7 +1,7 @@
 //! The command `tkrzw_dbm_util`, run in its current directory.
 #![tactic(auto)]
 
-ghost use Rattle.std.specs.Prelude.{◌≡◌, ◌⊎◌, IfOk};
+ghost use Rattle.std.specs.Prelude.{◌≡◌, ◌≢◌, IfOk};
 ghost use Rattle.tk_status.specs.Finish.{ended};
 ghost use Rattle.tk_disk.specs.Folder.{NoneOut};
 ghost use Rattle.tk_disk.specs.DirFolder.{dir_is_out};
@@ -23,7 +23,8 @@ fn words_of(rt: &HostRuntime) -> io::Result<Vec<String>> {
 
 /// Words that are no text are a faulty command line.
 fn finish_of(error: io::Error) -> Finish
-    ensures { (result ≡ ended 5) ⊎ (result ≡ ended 1) }
+    ensures memory { error_kind error ≡ OutOfMemory → result ≡ ended 5 }
+    ensures words { error_kind error ≢ OutOfMemory → result ≡ ended 1 }
 {
     match error.kind() {
         io::ErrorKind::OutOfMemory => Finish::with(5),
