@@ -250,6 +250,8 @@ impl<D: Disk> SeqStore for HashStore<D> {
 
     ghost safe_less = { hash_safe_less D.image D.left_since };
 
+    ghost tells_need = { λ s changes told. Prim.cc };
+
     ghost by_extents = { hash_by_extents D.image };
 
     fn faults(&self) -> u64 {

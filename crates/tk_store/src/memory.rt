@@ -104,6 +104,8 @@ impl SeqStore for MemStore {
 
     ghost safe_less = { λ s t first since more m n less safe. tt };
 
+    ghost tells_need = { λ s changes told. Prim.cc };
+
     ghost by_extents = { mem_by_extents };
 
     fn faults(&self) -> u64 {

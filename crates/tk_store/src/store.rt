@@ -255,6 +255,9 @@ pub trait SeqStore {
 
     ghost safe_less: { (s : Self) (t : ℕ) (first : First) (since more : List Group) (m n : ℕ) → m ≤ n → safe s t first since n → safe s t first (since ++ more) m };
 
+    /// A store that tells its records tells what a list of changes needs.
+    ghost tells_need: { (s : Self) (changes : List Change) → is_some (shown s).map ≡ true → is_some ((shown s).needs changes) ≡ true };
+
     /// A store that counts by extents needs so much, whatever it holds.
     ghost by_extents: { (s : Self) (v : ℕ) (changes : List Change) → (nature s).extents ≡ Some v → (shown s).needs changes ≡ Some (extents_need (nature s) v changes) };
 }
