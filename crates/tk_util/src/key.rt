@@ -1,5 +1,5 @@
 //! `get` and `remove`: calls on a file that has to be there.
-ghost use Rattle.std.specs.Prelude.{◌≡◌, ◌≤◌, ◌<◌, ◌^◌, ◌⊎◌, ℕ, List, [], length, true, false, Option, IsSome, IfOk, IfSome, Err, OnOk};
+ghost use Rattle.std.specs.Prelude.{◌≡◌, ◌≢◌, ◌≤◌, ◌<◌, ◌^◌, ◌⊎◌, ℕ, List, [], length, true, false, Option, IsSome, IfOk, IfSome, Err, OnOk};
 ghost use Rattle.tk_disk.specs.Disk.{Rose};
 ghost use Rattle.tk_disk.specs.Folder.{NoneOut, or_empty};
 ghost use Rattle.tk_proc.specs.Replies.{get_reply, remove_reply};
@@ -67,6 +67,8 @@ pub(crate) fn run_remove<F: Folder>(
     ensures clean { result.status ≡ 0 → (F.fault_count folder.new ≡ F.fault_count folder.old) × (F.disk_faults folder.new remove.entry.file.now ≡ F.disk_faults folder.old remove.entry.file.now) }
     ensures fault { result.status ≡ 4 → Rose (F.fault_count folder.old) (F.fault_count folder.new)
         ⊎ ((name : List ℕ) × Rose (F.disk_faults folder.old name) (F.disk_faults folder.new name)) }
+    ensures met { result.status ≢ 3 → result.status ≢ 4 → F.fault_count folder.new ≡ F.fault_count folder.old }
+    ensures tells { F.tells folder.new ≡ F.tells folder.old }
     ensures closed { NoneOut (F.is_out folder.new) }
 {
     let disk = match folder.take(remove.file, false) {
@@ -99,6 +101,8 @@ fn look_up<F: Folder>(
     ensures clean { result.status ≡ 0 → (F.fault_count folder.new ≡ F.fault_count folder.old) × (F.disk_faults folder.new get.entry.file.now ≡ F.disk_faults folder.old get.entry.file.now) }
     ensures fault { result.status ≡ 4 → Rose (F.fault_count folder.old) (F.fault_count folder.new)
         ⊎ ((name : List ℕ) × Rose (F.disk_faults folder.old name) (F.disk_faults folder.new name)) }
+    ensures met { result.status ≢ 3 → result.status ≢ 4 → F.fault_count folder.new ≡ F.fault_count folder.old }
+    ensures tells { F.tells folder.new ≡ F.tells folder.old }
     ensures closed { NoneOut (F.is_out folder.new) }
 {
     let disk = match folder.take(get.file, false) {
@@ -131,6 +135,8 @@ pub(crate) fn run_get<F: Folder, W: Sink>(
     ensures clean { result.status ≡ 0 → (F.fault_count folder.new ≡ F.fault_count folder.old) × (F.disk_faults folder.new get.entry.file.now ≡ F.disk_faults folder.old get.entry.file.now) × (W.fault_count out.new ≡ W.fault_count out.old) }
     ensures fault { result.status ≡ 4 → Rose (F.fault_count folder.old) (F.fault_count folder.new)
         ⊎ (((name : List ℕ) × Rose (F.disk_faults folder.old name) (F.disk_faults folder.new name)) ⊎ Rose (W.fault_count out.old) (W.fault_count out.new)) }
+    ensures met { result.status ≢ 3 → result.status ≢ 4 → F.fault_count folder.new ≡ F.fault_count folder.old }
+    ensures tells { F.tells folder.new ≡ F.tells folder.old }
     ensures closed { NoneOut (F.is_out folder.new) }
 {
     let mut getter = Getter::new(alloc);

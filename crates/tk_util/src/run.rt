@@ -1,4 +1,4 @@
-ghost use Rattle.std.specs.Prelude.{◌≡◌, ◌⊎◌, ◌↔◌, ℕ, List, true, Some, None};
+ghost use Rattle.std.specs.Prelude.{◌≡◌, ◌≢◌, ◌⊎◌, ◌↔◌, ℕ, List, true, Some, None};
 ghost use Rattle.tk_disk.specs.Disk.{Rose};
 ghost use Rattle.tk_disk.specs.Folder.{NoneOut, or_empty};
 ghost use Rattle.tk_util.specs.Calls.{Spares};
@@ -38,6 +38,8 @@ pub fn run_util<F: Folder, R: Source, W: Sink>(
         → (F.fault_count folder.new ≡ F.fault_count folder.old) × (F.disk_faults folder.new (file_of c) ≡ F.disk_faults folder.old (file_of c)) × (W.fault_count out.new ≡ W.fault_count out.old) }
     ensures fault { result.status ≡ 4 → Rose (F.fault_count folder.old) (F.fault_count folder.new)
         ⊎ (((name : List ℕ) × Rose (F.disk_faults folder.old name) (F.disk_faults folder.new name)) ⊎ Rose (W.fault_count out.old) (W.fault_count out.new)) }
+    ensures met { result.status ≢ 3 → result.status ≢ 4 → F.fault_count folder.new ≡ F.fault_count folder.old }
+    ensures tells { F.tells folder.new ≡ F.tells folder.old }
     ensures closed { NoneOut (F.is_out folder.new) }
 {
     let _ = source;

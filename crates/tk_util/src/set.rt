@@ -143,6 +143,8 @@ pub(crate) fn run_set<F: Folder>(alloc: Global, set: SetOperands<'_>, folder: &m
     ensures clean { result.status ≡ 0 → (F.fault_count folder.new ≡ F.fault_count folder.old) × (F.disk_faults folder.new set.entry.file.now ≡ F.disk_faults folder.old set.entry.file.now) }
     ensures fault { result.status ≡ 4 → Rose (F.fault_count folder.old) (F.fault_count folder.new)
         ⊎ ((name : List ℕ) × Rose (F.disk_faults folder.old name) (F.disk_faults folder.new name)) }
+    ensures met { result.status ≢ 3 → result.status ≢ 4 → F.fault_count folder.new ≡ F.fault_count folder.old }
+    ensures tells { F.tells folder.new ≡ F.tells folder.old }
     ensures closed { NoneOut (F.is_out folder.new) }
 {
     let Ok(pairs) = one_record(alloc, set.key, set.value) else {

@@ -1,5 +1,6 @@
-use Rattle.std.proofs.Common.{refl, ◌∙◌, inl, inr}
+use Rattle.std.proofs.Common.{refl, ◌∙◌, ap, inl, inr}
 use Rattle.tk_status.specs.Finish.{ended}
+use Rattle.tk_status.specs.declared.finish.Finish.{Finish}
 use Rattle.tk_util.proofs.Endings.{ran_call, ran_absent, ran_stopped, empty_refused, there, from_none, from_some, on_some, two_names, found_call, kept_call, not_status, settled_call, rose_moved}
 use Rattle.tk_util.proofs.key.look_up.Goals as goal
 
@@ -40,7 +41,7 @@ returns-clause-ran g c = λ tells.
     }
 
 pub returns-in-Ok-None-clause-settled : goal.returns-in-Ok-None-clause-settled
-returns-in-Ok-None-clause-settled g c = λ left held tells. inl (c.refused.result, (λ e. not_status _ _ 4 c.refused.ensures (λ h. cc h) e), (returns-in-Ok-None-clause-ran g c tells).call)
+returns-in-Ok-None-clause-settled g c = λ left held tells. inl (c.refused.result, inr (inl (ap (λ (x : Finish). x.status) c.refused.ensures)), (returns-in-Ok-None-clause-ran g c tells).call)
 
 pub returns-clause-settled : goal.returns-clause-settled
 returns-clause-settled g c = λ left held tells.
@@ -49,4 +50,4 @@ returns-clause-settled g c = λ left held tells.
     (λ e. rose_moved _ _ _ _ (from_some _ _ _ c.in-Ok-Some.field-0-is c.in-Ok-Some.ensures.count) c.give-given.ensures.count (c.get_from-disk.ensures.fault e))
 
 pub returns-in-Err-Fault-clause-settled : goal.returns-in-Err-Fault-clause-settled
-returns-in-Err-Fault-clause-settled g c = λ left held tells. inl (ended 5, (λ h. cc h), ran_stopped _ _ _ _ _ (ended 5) (inr refl) c.in-Err-Fault.ensures.err_same)
+returns-in-Err-Fault-clause-settled g c = λ left held tells. inl (ended 5, inr (inr (inl refl)), ran_stopped _ _ _ _ _ (ended 5) (inr refl) c.in-Err-Fault.ensures.err_same)

@@ -32,7 +32,7 @@ returns-clause-ran g c = λ left held tells. built g c left held tells c.give-gi
 
 pub returns-clause-settled : goal.returns-clause-settled
 returns-clause-settled g c = λ left held tells.
-    no_fault c.set_on-disk.result.answer (call_end c.set_on-disk.result.answer (Ok tt)) refl
+    no_fault c.set_on-disk.result.answer
     (λ e. rose_moved _ _ _ _ (from_some _ _ _ c.in-Ok-Some.field-0-is c.in-Ok-Some.ensures.count) c.give-given.ensures.count (c.set_on-disk.ensures.fault e))
     (λ finish is. built g c left held tells (Ok tt) finish is)
 
