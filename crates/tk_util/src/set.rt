@@ -3,7 +3,6 @@ ghost use Rattle.tk_model.specs.declared.record.Pair.{Pair};
 ghost use Rattle.tk_disk.specs.Crash.{Within};
 ghost use Rattle.tk_disk.specs.Disk.{Rose, HasFaultCause};
 ghost use Rattle.tk_disk.specs.Folder.{NoneOut, or_empty};
-ghost use Rattle.tk_append.specs.Fresh.{AllPairsSmall, fresh_text, fresh_size};
 ghost use Rattle.tk_proc.specs.Replies.{set_reply};
 ghost use Rattle.tk_util.specs.Asked.{set_said};
 ghost use Rattle.tk_util.specs.Calls.{Spares};
@@ -45,10 +44,15 @@ fn one_record(alloc: Global, key: &[u8], value: &[u8]) -> Result<PairList, NoMem
 }
 
 /// Writes the file where the disk is empty, and answers whether it was. After want of memory it is empty again.
-fn set_fresh<D: Disk>(alloc: Global, disk: &mut D, pairs: &PairList) -> Result<bool, DiskError>
-    requires small { AllPairsSmall pairs.now }
-    requires end { fresh_size new_head pairs.now ≤ 2 ^ 40 }
-    ensures fresh { IfOk result (λ b. b ≡ true → IfSome (D.image disk.old) (λ f. (f ≡ []) × (D.image disk.new ≡ Some (fresh_text new_head pairs.now)))) }
+fn set_fresh<D: Disk>(
+    alloc: Global,
+    disk: &mut D,
+    key: &[u8],
+    value: &[u8],
+) -> Result<bool, DiskError>
+    requires key { length key.now < 2 ^ 16 }
+    requires value { length value.now ≤ 16777215 }
+    ensures fresh { IfOk result (λ b. b ≡ true → IfSome (D.image disk.old) (λ f. (f ≡ []) × (D.image disk.new ≡ Some (set_text key.now value.now)))) }
     ensures full { IfOk result (λ b. b ≡ false → IfSome (D.image disk.old) (λ f. f ≢ [])) }
     ensures kept { IfSome (D.image disk.old) (λ f. f ≢ [] → D.image disk.new ≡ D.image disk.old) }
     ensures no_memory { result ≡ Err DiskError.NoMemory → D.image disk.new ≡ D.image disk.old }
@@ -58,7 +62,8 @@ fn set_fresh<D: Disk>(alloc: Global, disk: &mut D, pairs: &PairList) -> Result<b
     if disk.len()? > 0 {
         return Ok(false);
     }
-    match write_fresh(alloc, disk, &NEW_HEAD, pairs) {
+    let pairs = one_record(alloc, key, value)?;
+    match write_fresh(alloc, disk, &NEW_HEAD, &pairs) {
         Ok(()) => Ok(true),
         Err(DiskError::NoMemory) => {
             disk.cut(0)?;
@@ -91,14 +96,7 @@ fn set_more<D: Disk>(alloc: Global, disk: D, key: &[u8], value: &[u8]) -> Called
 }
 
 /// Sets a key in a file, which may be empty.
-fn set_on<D: Disk>(
-    alloc: Global,
-    mut disk: D,
-    pairs: &PairList,
-    key: &[u8],
-    value: &[u8],
-) -> Called<D>
-    requires pairs { pairs.now ≡ record { key = key.now; value = value.now } ∷ [] }
+fn set_on<D: Disk>(alloc: Global, mut disk: D, key: &[u8], value: &[u8]) -> Called<D>
     requires key { length key.now < 2 ^ 16 }
     requires value { length value.now ≤ 16777215 }
     ensures fresh { IfSome (D.image disk) (λ f. f ≡ [] → OnOk result.answer (D.image result.disk ≡ Some (set_text key.now value.now))) }
@@ -110,7 +108,7 @@ fn set_on<D: Disk>(
     ensures later { D.fault_count disk ≤ D.fault_count result.disk }
     ensures fault { result.answer ≡ Err Stop.Fault → Rose (D.fault_count disk) (D.fault_count result.disk) }
 {
-    match set_fresh(alloc, &mut disk, pairs) {
+    match set_fresh(alloc, &mut disk, key, value) {
         Ok(true) => Called {
             disk,
             answer: Ok(Status::Success),
@@ -147,16 +145,13 @@ pub(crate) fn run_set<F: Folder>(alloc: Global, set: SetOperands<'_>, folder: &m
     ensures tells { F.tells folder.new ≡ F.tells folder.old }
     ensures closed { NoneOut (F.is_out folder.new) }
 {
-    let Ok(pairs) = one_record(alloc, set.key, set.value) else {
-        return Finish::with(5);
-    };
     let disk = match folder.take(set.file, true) {
         Ok(Some(disk)) => disk,
         Ok(None) => unreachable!(),
         Err(DiskError::Fault) => return Finish::with(4),
         Err(DiskError::NoMemory) => return Finish::with(5),
     };
-    let Called { disk, answer } = set_on(alloc, disk, &pairs, set.key, set.value);
+    let Called { disk, answer } = set_on(alloc, disk, set.key, set.value);
     let given = folder.give(set.file, disk);
     end_of(answer, given)
 }

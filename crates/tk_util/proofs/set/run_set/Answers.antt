@@ -13,7 +13,7 @@ use Rattle.tk_util.proofs.set.run_set.Given as Given
 use Rattle.tk_util.proofs.set.run_set.Goals as goal
 
 -- the call, whatever giving the disk back answered
-built : (g : Given.Over) (c : goal.After-drop-pairs-inside-2 g) (left held : Option (List ℕ)) → g.F.Folder.tells c.args.folder.now ≡ true → (given : Result (Unit {0}) DiskError) (finish : Finish)
+built : (g : Given.Over) (c : goal.After-end_of g) (left held : Option (List ℕ)) → g.F.Folder.tells c.args.folder.now ≡ true → (given : Result (Unit {0}) DiskError) (finish : Finish)
     → finish ≡ call_end c.set_on-disk.result.answer given
     → RanSet (set_said c.args.set) (record { files = g.F.Folder.file c.args.folder.now; left = left; held = held }) (record { files = g.F.Folder.file c.give-given.new.self; left = left; held = held }) finish
 built g c left held tells given finish is =
