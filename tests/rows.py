@@ -2,7 +2,8 @@
 """Runs the built program on worked rows, each in a folder of its own.
 
 A row is a list of steps. A step gives the words, and what is wanted of the status, the two streams and the files.
-The rows end with the line `rows: N passed, M failed`; where the program isn't built they are skipped with a word.
+The rows end with the line `rows: N passed, M failed`. A row that this machine can't show is left out with a word. Where
+the program isn't built all are left out; that is a failure only where the environment has CI=true.
 """
 import hashlib
 import os
@@ -12,6 +13,10 @@ import tempfile
 
 HOME = os.path.dirname(os.path.dirname(os.path.abspath(__file__)))
 PROGRAM = os.path.join(HOME, "crates", "tkrzw_dbm_util", "out", "tkrzw_dbm_util")
+# It runs PROGRAM, and would build it only where there is none.
+SCRIPT = os.path.join(HOME, "bin", "tkrzw_dbm_util")
+# Stands in words for the row's folder.
+HERE = "{here}"
 
 
 def fnv(data, width):
@@ -66,12 +71,17 @@ def one_set(key, value):
     return hash_file([(0, [(1, key, value)])], 1, 1)
 
 
-class Step:
-    """Words, and what is wanted. `files` are all files of the folder after it, by name."""
+class ReadOnly(bytes):
+    """The text of a file that may not be written."""
 
-    def __init__(self, words, status, out=b"", err=b"", files=None, sums=None):
+
+class Step:
+    """Words, and what is wanted. `files` are all files of the folder after it, by name. `out_to` takes standard output."""
+
+    def __init__(self, words, status, out=b"", err=b"", files=None, sums=None, out_to=None, program=PROGRAM):
         self.words, self.status, self.out, self.err = words, status, out, err
         self.files, self.sums = files or {}, sums or {}
+        self.out_to, self.program = out_to, program
 
 
 def flipped(text, at):
@@ -125,7 +135,7 @@ def table(texts):
     """Files that are refused, each at its place."""
     files = {f"{i}.tkh": text for i, (text, _) in enumerate(texts)}
     return files, [Step([*words], 3, err=b"file 0 refused at place %d\n" % place, files=files) for i, (_, place) in enumerate(texts)
-                   for words in (("get", f"{i}.tkh", "a"), ("set", f"{i}.tkh", "c", "3"))]
+                   for words in (("get", f"{i}.tkh", "a"), ("set", f"{i}.tkh", "c", "3"), ("remove", f"{i}.tkh", "a"))]
 
 
 FIRST = one_set(b"a", b"1")
@@ -165,6 +175,24 @@ ROWS = {
     "words that are no text": ({}, [Step(["set", "x.tkh", b"\xff", "1"], 1, err=b"usage\n")]),
     "a folder in the way": ({"x.tkh/in": b"?"}, [Step(["set", "x.tkh", "a", "1"], 4, err=b"fault\n", files={"x.tkh/in": b"?"})]),
     "a folder that isn't there": ({}, [Step(["set", "no/x.tkh", "a", "1"], 4, err=b"fault\n")]),
+    "a file in a folder that is there": ({"in/kept": b"?"}, [
+        Step(["set", "in/x.tkh", "a", "1"], 0, files={"in/kept": b"?", "in/x.tkh": FIRST}),
+        Step(["set", "in/x.tkh", "b", "22"], 0, files={"in/kept": b"?", "in/x.tkh": SECOND}),
+        Step(["get", "in/x.tkh", "b"], 0, out=b"22\n", files={"in/kept": b"?", "in/x.tkh": SECOND})]),
+    "an absolute name": ({"in/kept": b"?"}, [
+        Step(["set", HERE + "/in/x.tkh", "a", "1"], 0, files={"in/kept": b"?", "in/x.tkh": FIRST}),
+        Step(["set", "in/x.tkh", "b", "22"], 0, files={"in/kept": b"?", "in/x.tkh": SECOND}),
+        Step(["get", HERE + "/in/x.tkh", "b"], 0, out=b"22\n", files={"in/kept": b"?", "in/x.tkh": SECOND})]),
+    "a full standard output": ({"x.tkh": FIRST}, [
+        Step(["get", "x.tkh", "a"], 4, err=b"fault\n", files={"x.tkh": FIRST}, out_to="/dev/full"),
+        Step(["get", "x.tkh", "nokey"], 6, err=b"answer NOT_FOUND_ERROR\n", files={"x.tkh": FIRST}, out_to="/dev/full"),
+        Step(["set", "x.tkh", "b", "22"], 0, files={"x.tkh": SECOND}, out_to="/dev/full")]),
+    "a file that may not be written": ({"x.tkh": ReadOnly(SECOND)}, [
+        Step(["get", "x.tkh", "b"], 0, out=b"22\n", files={"x.tkh": SECOND}),
+        Step(["set", "x.tkh", "c", "3"], 4, err=b"fault\n", files={"x.tkh": SECOND}),
+        Step(["remove", "x.tkh", "a"], 4, err=b"fault\n", files={"x.tkh": SECOND})]),
+    "the repository's own script": ({"x.tkh": SECOND}, [
+        Step(["get", "x.tkh", "b"], 0, out=b"22\n", files={"x.tkh": SECOND}, program=SCRIPT)]),
     "a file that has bytes": ({"x.tkh": b"?"}, [
         Step(["set", "x.tkh", "a", "1"], 3, err=b"file 0 refused at place 0\n", files={"x.tkh": b"?"})]),
     "a second set": ({}, [
@@ -225,6 +253,7 @@ ROWS = {
     "a next number that is used": refused(hash_file([(5, [(1, b"a", b"1")])], 1, 5), 32),
     "a next number that is too great to write": ({"x.tkh": LATE}, [
         Step(["set", "x.tkh", "b", "2"], 3, err=b"file 0 refused at place 48\n", files={"x.tkh": LATE}),
+        Step(["remove", "x.tkh", "a"], 3, err=b"file 0 refused at place 48\n", files={"x.tkh": LATE}),
         Step(["get", "x.tkh", "a"], 0, out=b"1\n", files={"x.tkh": LATE})]),
     "a link that leads to its own block": refused(
         hash_file([(0, [(1, b"a", b"1")])], 1, 1, p=0)[:88] + (72).to_bytes(8, "big") + hash_file([(0, [(1, b"a", b"1")])], 1, 1, p=0)[96:], 88),
@@ -234,6 +263,7 @@ ROWS = {
     "each fault alone": table([(crafted(what), place) for what, place in FAULTS]),
     "no fault but a great next number": ({"x.tkh": crafted("next")}, [
         Step(["set", "x.tkh", "c", "3"], 3, err=b"file 0 refused at place 48\n", files={"x.tkh": crafted("next")}),
+        Step(["remove", "x.tkh", "a"], 3, err=b"file 0 refused at place 48\n", files={"x.tkh": crafted("next")}),
         Step(["get", "x.tkh", "b"], 0, out=b"22\n", files={"x.tkh": crafted("next")})]),
     "a link of an earlier block before a body of a later one": refused(
         crafted("body")[:88] + (8).to_bytes(8, "big") + crafted("body")[96:], 88),
@@ -254,14 +284,22 @@ def found_in(folder):
     return found
 
 
+def run(folder, step):
+    """Runs a step in its row's folder."""
+    words = [word.replace(HERE, folder) if isinstance(word, str) else word for word in step.words]
+    with open(step.out_to or os.devnull, "wb") as taker:
+        out = taker if step.out_to else subprocess.PIPE
+        return subprocess.run([step.program, *words], cwd=folder, stdin=subprocess.DEVNULL, stdout=out, stderr=subprocess.PIPE, timeout=60)
+
+
 def wrong(folder, step):
     """What is not as the step wants it."""
-    ran = subprocess.run([PROGRAM, *step.words], cwd=folder, stdin=subprocess.DEVNULL, capture_output=True, timeout=60)
+    ran = run(folder, step)
     files = found_in(folder)
     faults = []
     for what, got, wanted in [
         ("status", ran.returncode, step.status),
-        ("standard output", ran.stdout, step.out),
+        ("standard output", ran.stdout or b"", step.out),
         ("standard error", ran.stderr, step.err),
         ("names of files", sorted(files), sorted(step.files)),
     ]:
@@ -277,12 +315,30 @@ def wrong(folder, step):
     return faults
 
 
+def make(folder, files):
+    """Writes a row's files, and answers whether each has the mode that it wants."""
+    bound = True
+    for name, text in files.items():
+        path = os.path.join(folder, name)
+        os.makedirs(os.path.dirname(path), exist_ok=True)
+        with open(path, "wb") as it:
+            it.write(text)
+        if isinstance(text, ReadOnly):
+            os.chmod(path, 0o444)
+            bound = bound and not os.access(path, os.W_OK)
+    return bound
+
+
 def passes(name, files, steps):
+    """Whether a row passes, or None where this machine can't show it."""
+    for step in steps:
+        if step.out_to and not os.path.exists(step.out_to):
+            print(f"{name}: left out, since there is no {step.out_to}")
+            return None
     with tempfile.TemporaryDirectory() as folder:
-        for path, text in files.items():
-            os.makedirs(os.path.dirname(os.path.join(folder, path)), exist_ok=True)
-            with open(os.path.join(folder, path), "wb") as it:
-                it.write(text)
+        if not make(folder, files):
+            print(f"{name}: left out, since this user may write every file")
+            return None
         for number, step in enumerate(steps, 1):
             for fault in wrong(folder, step):
                 print(f"{name}, step {number}: {fault}")
@@ -292,11 +348,15 @@ def passes(name, files, steps):
 
 def main():
     if not os.access(PROGRAM, os.X_OK):
-        print("rows: skipped, since the program isn't built")
-        return 0
+        if os.environ.get("CI") != "true":
+            print("rows: skipped, since the program isn't built")
+            return 0
+        print("the program isn't built, so no row was run")
+        print(f"rows: 0 passed, {len(ROWS)} failed")
+        return 1
     results = [passes(name, files, steps) for name, (files, steps) in ROWS.items()]
-    print(f"rows: {sum(results)} passed, {len(results) - sum(results)} failed")
-    return 0 if all(results) else 1
+    print(f"rows: {results.count(True)} passed, {results.count(False)} failed")
+    return int(False in results)
 
 
 if __name__ == "__main__":

@@ -1,5 +1,6 @@
 ghost use Rattle.std.specs.Prelude.{◌≡◌, ◌≤◌, ◌++◌, ◌^◌, ◌==◌, List, [], length, drop, replicate, true, IfSome, IfOk, OnOk, Some};
 ghost use Rattle.std.specs.Option.{is_some};
+ghost use Rattle.tk_disk.specs.Crash.{Only};
 ghost use Rattle.tk_disk.specs.Disk.{HasCause, HasFaultCause};
 ghost use Rattle.tk_block.specs.Text.{static_text, closing_text, is_static, base_of};
 ghost use Rattle.tk_block.specs.Layout.{laid, end_of, heads_text, texts, links_of};
@@ -89,6 +90,7 @@ pub fn write_fresh<D: Disk>(
     requires end { fresh_size head.now pairs.now ≤ 2 ^ 40 }
     requires empty { IfSome (D.image disk.old) (λ f. f ≡ []) }
     ensures written { OnOk result (IfSome (D.image disk.old) (λ _. D.image disk.new ≡ Some (fresh_text head.now pairs.now))) }
+    ensures durable { OnOk result (IfSome (D.image disk.new) (λ f. Only f (D.may_leave disk.new))) }
     ensures told { is_some (D.image disk.new) ≡ is_some (D.image disk.old) }
     ensures cause { HasFaultCause (D.fault_count disk.old) (D.fault_count disk.new) result }
 {

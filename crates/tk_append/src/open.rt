@@ -56,6 +56,7 @@ pub fn open_log<D: Disk>(
     ensures told { IfOk result (λ log. is_some (D.image (log_disk log)) ≡ is_some (D.image disk)) }
     ensures back { IfErr result (λ u. u.cause ≢ OpenError.Fault → D.image u.disk ≡ D.image disk) }
     ensures back_reads { writable ≡ false → IfErr result (λ u. D.image u.disk ≡ D.image disk) }
+    ensures back_still { IfErr result (λ u. u.cause ≢ OpenError.Fault → OnlyReads D.may_leave D.moment D.left_since disk u.disk) }
     ensures back_told { IfErr result (λ u. is_some (D.image u.disk) ≡ is_some (D.image disk)) }
     ensures durable { writable ≡ true → IfOk result (λ log. IfSome (D.image (log_disk log)) (λ f. Only f (D.may_leave (log_disk log)))) }
     ensures crash { IfOk result (λ log. Follows (Torn 32 32) (D.may_leave disk) (D.may_leave (log_disk log))) }

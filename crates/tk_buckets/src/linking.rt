@@ -56,6 +56,7 @@ fn cell_of<D: Disk>(disk: &mut D, cell: u64, place: u64, len: u64) -> Result<Opt
         → IfOk result (λ c. c ≡ Some (cell_to cell place places))) }
     ensures fits { IfOk result (λ c. IfSome c (λ n. n + 8 ≤ 2 ^ 40)) }
     ensures image { D.image disk.new ≡ D.image disk.old }
+    ensures more { D.taken_count disk.old ≤ D.taken_count disk.new }
     ensures cause { HasCause (D.fault_count disk.old) (D.fault_count disk.new) result }
     ensures still { OnlyReads D.may_leave D.moment D.left_since disk.old disk.new }
 {
@@ -86,6 +87,7 @@ pub fn unlink<D: Disk>(
     ensures chain { (places : List ℕ) → IfSome (D.image disk.old) (λ f. IsChain head.now f bucket places → has_block place places ≡ true
         → OnOk result (IfSome (D.image disk.new) (λ g. IsChain head.now g bucket (without place places)))) }
     ensures told { is_some (D.image disk.new) ≡ is_some (D.image disk.old) }
+    ensures more { D.taken_count disk.old ≤ D.taken_count disk.new }
     ensures cause { HasCause (D.fault_count disk.old) (D.fault_count disk.new) result }
     ensures crash { (places : List ℕ) → IfSome (D.image disk.old) (λ f. IsChain head.now f bucket places → has_block place places ≡ true
         → Follows (Torn (cell_to (head_cell bucket) place places) 8) (D.may_leave disk.old) (D.may_leave disk.new)) }

@@ -1,4 +1,4 @@
-ghost use Rattle.std.specs.Prelude.{◌≡◌, ◌≢◌, ◌<◌, ◌++◌, ◌∷◌, [], ℕ, List, All, length, map, Ok, Err, IfErr, IfOk, OnOk, OnErr, Some};
+ghost use Rattle.std.specs.Prelude.{◌≡◌, ◌≢◌, ◌<◌, ◌⊎◌, ◌++◌, ◌∷◌, [], ℕ, List, All, length, map, Ok, Err, IfErr, IfOk, OnOk, OnErr, Some};
 ghost use Rattle.tk_model.specs.declared.record.Pair.{Pair};
 ghost use Rattle.tk_flat.specs.Errors.{Answers, Extends, Names};
 ghost use Rattle.tk_flat.specs.Flat.{pair_with};
@@ -19,6 +19,7 @@ const MAX_VALUE: usize = 16_777_215;
 pub fn next_line(bytes: &[u8]) -> (&[u8], &[u8])
     requires { 0 < length bytes.now }
     ensures line { lines_of bytes.now ≡ result.0.now ∷ lines_of result.1.now }
+    ensures parts { (bytes.now ≡ result.0.now ++ 10 ∷ result.1.now) ⊎ ((bytes.now ≡ result.0.now) × (result.1.now ≡ [])) }
     ensures shorter { length result.1.now < length bytes.now }
 {
     match cut(b'\n', bytes) {

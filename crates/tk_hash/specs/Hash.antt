@@ -1,6 +1,7 @@
 -- A hash file as a store.
 use Rattle.std.specs.Prelude.{◌≡◌, ◌≢◌, ◌⊎◌, ℕ, ◌+◌, ◌<◌, ◌≤◌, ◌^◌, min, true, false, List, [], ◌++◌, length, take, MatchOption, Option, Some, None, IfSome}
 use Rattle.std.specs.Option.{option_map}
+use Rattle.tk_disk.specs.Crash.{OnlyReads}
 use Rattle.tk_model.specs.Records.{after, replay, AllFit, IsClearAlone}
 use Rattle.tk_model.specs.declared.record.Order.TheVariants.{Hash}
 use Rattle.tk_model.specs.declared.record.Group.{Group}
@@ -67,6 +68,11 @@ module _ {D : Type 0} where
   -- the names that contracts call its parts
   abbrev pub hash_disk : HashStore D → D
   hash_disk s = log_disk s.log
+
+  -- from one state to another the file was read at most
+  pub record HashUntouched (image : D → Option (List ℕ)) (may_leave : D → List ℕ → Type 0) (moment : D → ℕ) (left_since : D → ℕ → List ℕ → Type 0) (old new : HashStore D) : Type 0 where
+    pub same : image (hash_disk new) ≡ image (hash_disk old)
+    pub still : OnlyReads may_leave moment left_since (hash_disk old) (hash_disk new)
 
   abbrev pub hash_head : HashStore D → StaticHead
   hash_head s = log_head s.log

@@ -1,6 +1,6 @@
 ghost use Rattle.std.specs.Prelude.{◌≡◌, ◌+◌, ◌≤◌, ◌<◌, ◌^◌, ◌∷◌, [], ℕ, List, length, min, true, false, IfOk, IfErr, IsOk, OnOk, IfSome, Some};
 ghost use Rattle.std.specs.Option.{is_some, option_map};
-ghost use Rattle.tk_disk.specs.Crash.{Torn, Within, Only, LeavesOnly};
+ghost use Rattle.tk_disk.specs.Crash.{Torn, Only, OnlyReads, LeavesOnly};
 ghost use Rattle.tk_disk.specs.Disk.{Rose, HasCause};
 ghost use Rattle.tk_model.specs.declared.record.Group.{Group};
 ghost use Rattle.tk_model.specs.declared.error.OpenError.TheVariants as OpenError;
@@ -15,17 +15,25 @@ use std::alloc::Global;
 use tk_append::{CountedLog, GroupLog, read_counted, write_fresh};
 use tk_block::{Closing, StaticHead};
 use tk_disk::{Disk, DiskError, zeros};
-use tk_model::{OpenError, PairList, ShardOf, Unopened};
+use tk_model::{NoMemory, OpenError, PairList, ShardOf, Unopened};
 
 /// Room for the front of a block with the longest key, and some of its value.
 const BUFFER: usize = 1 << 17;
 
-/// Writes the file of a header and no records.
+/// The buffer of a store.
+fn buffer_of(alloc: Global) -> Result<Vec<u8>, NoMemory>
+    ensures { IfOk result (λ b. 131072 ≤ length b.items) }
+{
+    zeros(alloc, BUFFER)
+}
+
+/// Writes the file of a header and no records. Where memory ran out, what was written is cut away.
 fn write_empty<D: Disk>(alloc: Global, disk: &mut D, head: &StaticHead) -> Result<(), OpenError>
     requires head { is_static head.now ≡ true }
     requires empty { IfSome (D.image disk.old) (λ f. f ≡ []) }
     ensures written { OnOk result (IfSome (D.image disk.old) (λ _. D.image disk.new ≡ Some (closed_text head.now [] 0))) }
     ensures told { is_some (D.image disk.new) ≡ is_some (D.image disk.old) }
+    ensures back { IfErr result (λ e. (e ≡ OpenError.Fault → ⊥) → D.image disk.new ≡ D.image disk.old) }
     ensures only { IfErr result IsOutside }
     ensures kept { OnOk result (D.fault_count disk.new ≡ D.fault_count disk.old) }
     ensures fault { IfErr result (λ e. e ≡ OpenError.Fault → Rose (D.fault_count disk.old) (D.fault_count disk.new)) }
@@ -34,7 +42,10 @@ fn write_empty<D: Disk>(alloc: Global, disk: &mut D, head: &StaticHead) -> Resul
     match write_fresh(alloc, disk, head, &PairList::new(alloc)) {
         Ok(()) => Ok(()),
         Err(DiskError::Fault) => Err(OpenError::Fault),
-        Err(DiskError::NoMemory) => Err(OpenError::NoMemory),
+        Err(DiskError::NoMemory) => match disk.cut(0) {
+            Ok(()) => Err(OpenError::NoMemory),
+            Err(_) => Err(OpenError::Fault),
+        },
     }
 }
 
@@ -48,7 +59,7 @@ fn begin<D: Disk>(
     ensures head { log_head log.new ≡ log_head log.old }
     ensures end { log_end log.new ≡ log_end log.old }
     ensures reads { writable ≡ false → D.image (log_disk log.new) ≡ D.image (log_disk log.old) }
-    ensures crash_reads { writable ≡ false → Within (D.may_leave (log_disk log.old)) (D.may_leave (log_disk log.new)) }
+    ensures reads_still { writable ≡ false → OnlyReads D.may_leave D.moment D.left_since (log_disk log.old) (log_disk log.new) }
     ensures same { writable ≡ false → IfOk result (λ c. c ≡ closing) }
     ensures open { writable ≡ true → IfOk result (λ c. c ≡ open_mark) }
     ensures marked { writable ≡ true → OnOk result (D.image (log_disk log.new) ≡ option_map (with_closing open_mark) (D.image (log_disk log.old))) }
@@ -90,12 +101,14 @@ impl<D: Disk> HashStore<D> {
         ensures limit { IfOk result (λ s. (hash_nature s).limit ≡ min limit (2 ^ 40)) }
         ensures last { IfOk result (λ s. writable ≡ true → (hash_nature s).next ≤ 2 ^ 62) }
         ensures reads { IfOk result (λ s. writable ≡ false → D.image (hash_disk s) ≡ D.image disk) }
-        ensures crash_reads { writable ≡ false → IfOk result (λ s. Within (D.may_leave disk) (D.may_leave (hash_disk s))) }
+        ensures reads_still { writable ≡ false → IfOk result (λ s. OnlyReads D.may_leave D.moment D.left_since disk (hash_disk s)) }
         ensures marked { writable ≡ true → IfOk result (λ s. D.image (hash_disk s) ≡ option_map (with_closing open_mark) (D.image disk)) }
         ensures durable { writable ≡ true → IfOk result (λ s. IfSome (D.image (hash_disk s)) (λ f. Only f (D.may_leave (hash_disk s)))) }
         ensures told { IfOk result (λ s. is_some (D.image (hash_disk s)) ≡ is_some (D.image disk)) }
         ensures back { IfErr result (λ u. (u.cause ≡ OpenError.Fault → ⊥) → D.image u.disk ≡ D.image disk) }
         ensures back_reads { writable ≡ false → IfErr result (λ u. D.image u.disk ≡ D.image disk) }
+        ensures back_still { IfErr result (λ u. (u.cause ≡ OpenError.Fault → ⊥) → OnlyReads D.may_leave D.moment D.left_since disk u.disk) }
+        ensures back_reads_still { writable ≡ false → IfErr result (λ u. OnlyReads D.may_leave D.moment D.left_since disk u.disk) }
         ensures kept { IfOk result (λ s. D.fault_count (hash_disk s) ≡ D.fault_count disk) }
         ensures fault { IfErr result (λ u. u.cause ≡ OpenError.Fault → Rose (D.fault_count disk) (D.fault_count u.disk)) }
         ensures later { IfErr result (λ u. D.fault_count disk ≤ D.fault_count u.disk) }
@@ -108,7 +121,16 @@ impl<D: Disk> HashStore<D> {
             count,
             next,
         };
-        HashStore::of_log(alloc, log, closing, writable, limit)
+        let buffer = match buffer_of(alloc) {
+            Ok(buffer) => buffer,
+            Err(_) => {
+                return Err(Unopened {
+                    cause: OpenError::NoMemory,
+                    disk: log.into_disk(),
+                });
+            }
+        };
+        HashStore::of_log(alloc, log, closing, writable, limit, buffer)
     }
 
     /// Writes the fresh hash file of kind 1 to an empty disk, and makes it durable that it is open for writing.
@@ -130,6 +152,7 @@ impl<D: Disk> HashStore<D> {
         ensures told { IfOk result (λ s. is_some (D.image (hash_disk s)) ≡ is_some (D.image disk)) }
         ensures durable { IfOk result (λ s. IfSome (D.image (hash_disk s)) (λ f. Only f (D.may_leave (hash_disk s)))) }
         ensures marked { IfOk result (λ s. IfSome (D.image (hash_disk s)) (λ f. f ≡ with_closing open_mark (closed_text (hash_head s) [] 0))) }
+        ensures back { IfErr result (λ u. (u.cause ≡ OpenError.Fault → ⊥) → D.image u.disk ≡ D.image disk) }
         ensures only { IfErr result (λ u. IsOutside u.cause) }
         ensures kept { IfOk result (λ s. D.fault_count (hash_disk s) ≡ D.fault_count disk) }
         ensures fault { IfErr result (λ u. u.cause ≡ OpenError.Fault → Rose (D.fault_count disk) (D.fault_count u.disk)) }
@@ -142,6 +165,12 @@ impl<D: Disk> HashStore<D> {
             order: 0,
             generation: 0,
         };
+        let Ok(buffer) = buffer_of(alloc) else {
+            return Err(Unopened {
+                cause: OpenError::NoMemory,
+                disk,
+            });
+        };
         let mut disk = disk;
         match write_empty(alloc, &mut disk, &head) {
             Ok(()) => {
@@ -152,7 +181,7 @@ impl<D: Disk> HashStore<D> {
                     count: 0,
                     next: 0,
                 };
-                HashStore::of_log(alloc, log, closing, true, limit)
+                HashStore::of_log(alloc, log, closing, true, limit, buffer)
             }
             Err(cause) => Err(Unopened { cause, disk }),
         }
@@ -165,7 +194,9 @@ impl<D: Disk> HashStore<D> {
         closing: Closing,
         writable: bool,
         limit: u64,
+        buffer: Vec<u8>,
     ) -> Result<HashStore<D>, Unopened<D>>
+        requires buffer { 131072 ≤ length buffer.items }
         requires whole { (groups : List Group) × IsClosedLog D.image log closing groups }
         ensures stands { (groups : List Group) → IsClosedLog D.image log closing groups → IfOk result (λ s. HashStands D.image D.may_leave s (opening groups) [] 0) }
         ensures head { IfOk result (λ s. hash_head s ≡ log_head log) }
@@ -173,13 +204,11 @@ impl<D: Disk> HashStore<D> {
         ensures next { IfOk result (λ s. (hash_nature s).next ≡ closing.next) }
         ensures limit { IfOk result (λ s. (hash_nature s).limit ≡ min limit (2 ^ 40)) }
         ensures reads { IfOk result (λ s. writable ≡ false → D.image (hash_disk s) ≡ D.image (log_disk log)) }
-        ensures crash_reads { writable ≡ false → IfOk result (λ s. Within (D.may_leave (log_disk log)) (D.may_leave (hash_disk s))) }
+        ensures reads_still { writable ≡ false → IfOk result (λ s. OnlyReads D.may_leave D.moment D.left_since (log_disk log) (hash_disk s)) }
         ensures marked { writable ≡ true → IfOk result (λ s. D.image (hash_disk s) ≡ option_map (with_closing open_mark) (D.image (log_disk log))) }
         ensures durable { writable ≡ true → IfOk result (λ s. IfSome (D.image (hash_disk s)) (λ f. Only f (D.may_leave (hash_disk s)))) }
         ensures told { IfOk result (λ s. is_some (D.image (hash_disk s)) ≡ is_some (D.image (log_disk log))) }
-        ensures back { IfErr result (λ u. (u.cause ≡ OpenError.Fault → ⊥) → D.image u.disk ≡ D.image (log_disk log)) }
-        ensures back_reads { writable ≡ false → IfErr result (λ u. D.image u.disk ≡ D.image (log_disk log)) }
-        ensures only { IfErr result (λ u. IsOutside u.cause) }
+        ensures fails { IfErr result (λ u. (u.cause ≡ OpenError.Fault) × (writable ≡ false → ⊥)) }
         ensures kept { IfOk result (λ s. D.fault_count (hash_disk s) ≡ D.fault_count (log_disk log)) }
         ensures fault { IfErr result (λ u. u.cause ≡ OpenError.Fault → Rose (D.fault_count (log_disk log)) (D.fault_count u.disk)) }
         ensures later { IfErr result (λ u. D.fault_count (log_disk log) ≤ D.fault_count u.disk) }
@@ -187,15 +216,6 @@ impl<D: Disk> HashStore<D> {
         ensures back_time { IfErr result (λ u. LeavesOnly D.moment D.left_since (log_disk log) u.disk (λ c. (d : List ℕ) × D.may_leave (log_disk log) d × Torn 32 32 d c)) }
     {
         let mut log = log;
-        let buffer = match zeros(alloc, BUFFER) {
-            Ok(buffer) => buffer,
-            Err(_) => {
-                return Err(Unopened {
-                    cause: OpenError::NoMemory,
-                    disk: log.into_disk(),
-                });
-            }
-        };
         let count = closing.count;
         let next = closing.next;
         match begin(&mut log, closing, writable) {

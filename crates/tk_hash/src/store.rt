@@ -1,9 +1,10 @@
 ghost use Rattle.std.specs.Prelude.{◌≡◌, ◌≢◌, ◌≤◌, ◌<◌, ◌+◌, ◌-◌, ◌^◌, ◌++◌, ◌∷◌, ◌==◌, ◌&&◌, not, nat_lt, ℕ, List, [], length, take, Option, IfOk, IfSome, OnOk, OnErr, Some, Ok, Err, true, false, if◌then◌else◌, sum_by};
 ghost use Rattle.std.specs.Option.{is_some};
-ghost use Rattle.tk_model.specs.Records.{AllFit, IsClearAlone};
+ghost use Rattle.tk_disk.specs.Crash.{Only};
+ghost use Rattle.tk_model.specs.Records.{find, AllFit, IsClearAlone};
 ghost use Rattle.tk_model.specs.declared.record.Group.{Group};
 ghost use Rattle.tk_model.specs.declared.record.Change.{Change as Changed};
-ghost use Rattle.tk_store.specs.Store.{First, made, extent_of as change_extent, HasCause, NeverFull, OkOrFault, IsWhole, Keeps, KeepsSince, LeavesSafe};
+ghost use Rattle.tk_store.specs.Store.{First, made, extent_of as change_extent, HasCause, NeverFull, OkOrFault, IsWhole, GivesInto, Keeps, KeepsSince, LeavesSafe};
 ghost use Rattle.tk_append.specs.Log.{closed_text};
 
 use crate::plan::{NewHeads, plan_changes, put_heads};
@@ -160,6 +161,7 @@ impl<D: Disk> HashStore<D> {
             → KeepsGroups D.may_leave D.moment D.left_since (hash_head self.old) (groups_held first.held ++ take hard since) (hash_disk self.old) (hash_disk self.new) }
         ensures file { (groups since : List Group) (hard : ℕ) → HashStands D.image D.may_leave self.old (opening groups) since hard
             → OnOk result (IfSome (D.image (hash_disk self.old)) (λ _. D.image (hash_disk self.new) ≡ Some (closed_text (hash_head self.old) (groups ++ since) next))) }
+        ensures durable { OnOk result (IfSome (D.image (hash_disk self.new)) (λ f. Only f (D.may_leave (hash_disk self.new)))) }
         ensures nature { hash_nature self.new ≡ hash_nature self.old }
         ensures head { hash_head self.new ≡ hash_head self.old }
         ensures closed { (hash_shown D.image self.new).closed ≡ (hash_shown D.image self.old).closed }
@@ -202,7 +204,7 @@ impl<D: Disk> HashStore<D> {
 
 impl<D: Disk> SeqStore for HashStore<D> {
     ghost use Rattle.std.specs.Prelude.{true, Bool};
-    ghost use Rattle.tk_hash.specs.Hash.{hash_disk, hash_head, hash_nature, hash_shown, HashStands, HashPrepared, HashSafe, HashStood, opening};
+    ghost use Rattle.tk_hash.specs.Hash.{hash_disk, hash_head, hash_nature, hash_shown, HashUntouched, HashStands, HashPrepared, HashSafe, HashStood, opening};
     ghost use Rattle.tk_hash.specs.HashLaws.{hash_replays, hash_rising, hash_held, hash_stood_now, hash_stood_less, hash_safe_less, hash_by_extents};
 
     ghost nature = { hash_nature };
@@ -218,6 +220,8 @@ impl<D: Disk> SeqStore for HashStore<D> {
     ghost safe = { HashSafe D.image D.left_since };
 
     ghost stood = { HashStood D.image D.may_leave D.moment D.left_since };
+
+    ghost untouched = { HashUntouched D.image D.may_leave D.moment D.left_since };
 
     ghost lawful = { λ m. true };
 
@@ -287,7 +291,20 @@ impl<D: Disk> SeqStore for HashStore<D> {
         )
     }
 
-    fn get_into(&mut self, key: &[u8], into: &mut [u8]) -> Result<Option<u32>, StoreError> {
+    fn get_into(&mut self, key: &[u8], into: &mut [u8]) -> Result<Option<u32>, StoreError>
+        requires whole { IsWhole (HashStands D.image D.may_leave) self.old }
+        ensures value { IfSome (hash_shown D.image self.old).map (λ m. IfOk result (GivesInto (find key.now m) into.old into.new)) }
+        ensures cost { IfSome ((hash_shown D.image self.old).cost key.now) (λ most. D.taken_count (hash_disk self.new) ≤ D.taken_count (hash_disk self.old) + most) }
+        ensures nature { hash_nature self.new ≡ hash_nature self.old }
+        ensures shown { hash_shown D.image self.new ≡ hash_shown D.image self.old }
+        ensures stands { Keeps (HashStands D.image D.may_leave) self.old self.new }
+        ensures since { KeepsSince (HashStood D.image D.may_leave D.moment D.left_since) self.old self.new }
+        ensures time { D.moment (hash_disk self.old) ≤ D.moment (hash_disk self.new) }
+        ensures reads { (hash_nature self.old).writable ≡ false → HashUntouched D.image D.may_leave D.moment D.left_since self.old self.new }
+        ensures taken { D.taken_count (hash_disk self.old) ≤ D.taken_count (hash_disk self.new) }
+        ensures cause { HasCause (D.fault_count (hash_disk self.old)) (D.fault_count (hash_disk self.new)) result }
+        ensures answers { OkOrFault result }
+    {
         let head = *self.log.head();
         get_value_into(self.log.disk(), &head, &mut self.buffer, key, into)
     }
@@ -356,6 +373,8 @@ impl<D: Disk> SeqStore for HashStore<D> {
         ensures file { (groups since : List Group) (hard : ℕ) → HashStands D.image D.may_leave self.old (opening groups) since hard
             → OnOk result (IfSome (D.image (hash_disk self.old)) (λ _. D.image (hash_disk self.new)
             ≡ Some (if (hash_nature self.old).writable then closed_text (hash_head self.old) (groups ++ since) next else closed_text (hash_head self.old) groups (hash_nature self.old).next))) }
+        ensures durable { (hash_nature self.old).writable ≡ true → OnOk result (IfSome (D.image (hash_disk self.new)) (λ f. Only f (D.may_leave (hash_disk self.new)))) }
+        ensures reads { (hash_nature self.old).writable ≡ false → HashUntouched D.image D.may_leave D.moment D.left_since self.old self.new }
         ensures told { is_some (D.image (hash_disk self.new)) ≡ is_some (D.image (hash_disk self.old)) }
     {
         self.closed = true;

@@ -58,7 +58,7 @@ fn copied_pair(alloc: Global, found: Option<&Pair>) -> Result<Option<Pair>, NoMe
 }
 
 impl SeqStore for MemStore {
-    ghost use Rattle.std.specs.Prelude.{true, Bool};
+    ghost use Rattle.std.specs.Prelude.{◌≡◌, true, Bool};
     ghost use Rattle.tk_store.specs.Memory.{MemStands, MemPrepared, mem_shown, mem_nature};
     ghost use Rattle.tk_store.specs.MemoryLaws.{mem_replays, mem_rising, mem_held, mem_numbered, mem_synced, mem_by_extents};
 
@@ -75,6 +75,8 @@ impl SeqStore for MemStore {
     ghost safe = { λ s t first groups n. Unit {0} };
 
     ghost stood = { λ s t n. MemStands s };
+
+    ghost untouched = { λ old new. new.pairs ≡ old.pairs };
 
     ghost lawful = { λ m. true };
 

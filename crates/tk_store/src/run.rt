@@ -84,6 +84,7 @@ fn put_changes<S: SeqStore>(
     ensures whole { UnlessFault result (IsWhole S.stands store.new) }
     ensures refused { OnErr result (UnlessFault result (Keeps S.stands store.old store.new × KeepsSince S.stood store.old store.new × SameContents (S.shown store.old) (S.shown store.new))) }
     ensures unchanged { OnFull result (S.shown store.new ≡ S.shown store.old) }
+    ensures same { changes.now ≡ [] → store.new ≡ store.old }
     ensures nature { S.nature store.new ≡ S.nature store.old }
     ensures open { (S.shown store.new).closed ≡ false }
     ensures time { S.moment store.old ≤ S.moment store.new }
@@ -127,6 +128,7 @@ pub fn run_on<S: SeqStore, P: RecordProcessor>(
     ensures whole { UnlessFault result (IsWhole S.stands store.new) }
     ensures refused { OnErr result (UnlessFault result (Keeps S.stands store.old store.new × KeepsSince S.stood store.old store.new × SameContents (S.shown store.old) (S.shown store.new))) }
     ensures unchanged { OnFull result (S.shown store.new ≡ S.shown store.old) }
+    ensures reads { (S.nature store.old).writable ≡ false → S.untouched store.old store.new }
     ensures nature { S.nature store.new ≡ S.nature store.old }
     ensures open { (S.shown store.new).closed ≡ false }
     ensures time { S.moment store.old ≤ S.moment store.new }

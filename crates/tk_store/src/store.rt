@@ -32,6 +32,9 @@ pub trait SeqStore {
     /// It stands for the last three, and at each moment since the first number every untorn image has at least so many groups as the second says.
     ghost stood: { Self → ℕ → ℕ → First → List Group → ℕ → Type 0 };
 
+    /// Nothing was written between one state and another: what the file holds is as it was, and a crash leaves no more.
+    ghost untouched: { Self → Self → Type 0 };
+
     /// The law of the type: a test on the records of a whole set.
     ghost lawful: { List Pair → Bool };
 
@@ -72,6 +75,7 @@ pub trait SeqStore {
         ensures stands { Keeps stands self.old self.new }
         ensures since { KeepsSince stood self.old self.new }
         ensures time { moment self.old ≤ moment self.new }
+        ensures reads { (nature self.old).writable ≡ false → untouched self.old self.new }
         ensures taken { taken_count self.old ≤ taken_count self.new }
         ensures cause { HasCause (fault_count self.old) (fault_count self.new) result }
         ensures never { NeverFull result };
@@ -86,6 +90,7 @@ pub trait SeqStore {
         ensures stands { Keeps stands self.old self.new }
         ensures since { KeepsSince stood self.old self.new }
         ensures time { moment self.old ≤ moment self.new }
+        ensures reads { (nature self.old).writable ≡ false → untouched self.old self.new }
         ensures taken { taken_count self.old ≤ taken_count self.new }
         ensures cause { HasCause (fault_count self.old) (fault_count self.new) result }
         ensures never { NeverFull result };
@@ -99,6 +104,7 @@ pub trait SeqStore {
         ensures stands { Keeps stands self.old self.new }
         ensures since { KeepsSince stood self.old self.new }
         ensures time { moment self.old ≤ moment self.new }
+        ensures reads { (nature self.old).writable ≡ false → untouched self.old self.new }
         ensures taken { taken_count self.old ≤ taken_count self.new }
         ensures cause { HasCause (fault_count self.old) (fault_count self.new) result }
         ensures never { NeverFull result };
@@ -112,6 +118,7 @@ pub trait SeqStore {
         ensures stands { Keeps stands self.old self.new }
         ensures since { KeepsSince stood self.old self.new }
         ensures time { moment self.old ≤ moment self.new }
+        ensures reads { (nature self.old).writable ≡ false → untouched self.old self.new }
         ensures taken { taken_count self.old ≤ taken_count self.new }
         ensures cause { HasCause (fault_count self.old) (fault_count self.new) result }
         ensures never { NeverFull result };
@@ -127,6 +134,7 @@ pub trait SeqStore {
         ensures stands { Keeps stands self.old self.new }
         ensures since { KeepsSince stood self.old self.new }
         ensures time { moment self.old ≤ moment self.new }
+        ensures reads { (nature self.old).writable ≡ false → untouched self.old self.new }
         ensures taken { taken_count self.old ≤ taken_count self.new }
         ensures cause { HasCause (fault_count self.old) (fault_count self.new) result }
         ensures never { NeverFull result };
@@ -150,6 +158,7 @@ pub trait SeqStore {
         ensures safe { LeavesSafe stood safe [] self.old self.new }
         ensures told { is_some (shown self.new).map ≡ is_some (shown self.old).map }
         ensures time { moment self.old ≤ moment self.new }
+        ensures reads { (nature self.old).writable ≡ false → untouched self.old self.new }
         ensures taken { taken_count self.old ≤ taken_count self.new }
         ensures cause { HasCause (fault_count self.old) (fault_count self.new) result };
 
@@ -175,6 +184,7 @@ pub trait SeqStore {
         ensures nature { nature self.new ≡ nature self.old }
         ensures open { (shown self.new).closed ≡ false }
         ensures time { moment self.old ≤ moment self.new }
+        ensures reads { (nature self.old).writable ≡ false → prepared self.old [] → untouched self.old self.new }
         ensures taken { taken_count self.old ≤ taken_count self.new }
         ensures cause { HasCause (fault_count self.old) (fault_count self.new) result }
         ensures answers { OkOrFault result };
@@ -190,9 +200,11 @@ pub trait SeqStore {
         ensures since { (t n : ℕ) (first : First) (since : List Group) (synced : ℕ) → stood self.old t n first since synced
             → OnOk result (stood self.new t n first since (if hard then length since else synced)) }
         ensures safe { LeavesSafe stood safe [] self.old self.new }
+        ensures told { is_some (shown self.new).map ≡ is_some (shown self.old).map }
         ensures nature { nature self.new ≡ nature self.old }
         ensures open { (shown self.new).closed ≡ false }
         ensures time { moment self.old ≤ moment self.new }
+        ensures reads { (nature self.old).writable ≡ false → untouched self.old self.new }
         ensures taken { taken_count self.old ≤ taken_count self.new }
         ensures cause { HasCause (fault_count self.old) (fault_count self.new) result }
         ensures answers { OkOrFault result };
@@ -209,9 +221,11 @@ pub trait SeqStore {
         ensures since { (t n : ℕ) (first : First) (since : List Group) (hard : ℕ) → stood self.old t n first since hard
             → OnOk result (stood self.new t n first (since ++ made (nature self.old) next []) (length (since ++ made (nature self.old) next []))) }
         ensures safe { LeavesSafe stood safe (made (nature self.old) next []) self.old self.new }
+        ensures told { is_some (shown self.new).map ≡ is_some (shown self.old).map }
         ensures nature { nature self.new ≡ nature self.old }
         ensures closed { (shown self.new).closed ≡ true }
         ensures time { moment self.old ≤ moment self.new }
+        ensures reads { (nature self.old).writable ≡ false → untouched self.old self.new }
         ensures taken { taken_count self.old ≤ taken_count self.new }
         ensures cause { HasCause (fault_count self.old) (fault_count self.new) result }
         ensures never { NeverFull result };

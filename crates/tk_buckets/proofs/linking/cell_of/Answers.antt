@@ -16,6 +16,7 @@ loop-next-preserved g c =
           (subst (λ (o : Option (List ℕ)). IfSome o (λ f. c.saturating_add-at.result + 8 ≤ length f → c.in_ok-next-2.next ≡ u64_in f c.saturating_add-at.result)) c.loop-next.invariant.image c.in_ok-next-2.ensures.value)
           (c.loop-next.invariant.toward h places);
       image = c.number_at-in-loop-next.ensures.image ∙ c.loop-next.invariant.image;
+      more = omega (arith, c.loop-next.invariant.more, c.number_at-in-loop-next.ensures.more);
       count = c.in_ok-next-2.ensures.cause.kept ∙ c.loop-next.invariant.count;
       still = reads_joined g.D.Disk.may_leave g.D.Disk.moment g.D.Disk.left_since g.met.D.Disk.counts_now c.number_at.new.disk c.loop-next.disk c.number_at-in-loop-next.new.disk c.loop-next.invariant.still c.number_at-in-loop-next.ensures.still;
     }
