@@ -164,10 +164,6 @@ pub found_call : (key : List ℕ) (reply : Option (List ℕ) → Reply) (f : Lis
 found_call key reply f o0 o1 value answer given finish taken made is e =
     found_in key reply f o1 value answer given finish (told_call o0 f (λ f. IfOk answer (λ s. IsMade false reply key f o1 value)) taken made) is e
 
--- a file that was only read stays
-pub kept_call : (reply : Option (List ℕ) → Reply) (key : List ℕ) (before after : Option (List ℕ)) (finish : Finish) → before ≡ Some (or_empty before) → RanCall false reply key before after finish → finish.status ≡ 0 → after ≡ before
-kept_call reply key before after finish some call e = let r = call.done e in r.after_is ∙ ap (λ (f : List ℕ). Some f) (sym r.holds.file) ∙ sym some
-
 -- a status of success comes of a value
 pub value_there : (value : Option (List ℕ)) (answer : Result Status Stop) (given : Result (Unit {0}) DiskError) (finish : Finish) → IfOk answer (λ s. s ≡ (get_reply value).status) → finish ≡ call_end answer given → finish.status ≡ 0 → IsSome value
 value_there (Some v) answer given finish is ends e = refl

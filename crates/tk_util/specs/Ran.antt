@@ -87,10 +87,10 @@ pub record IsLine (key f line : List ℕ) : Type 0 where
   pub found : value_in holds.groups key ≡ Some value
   pub line_is : line ≡ value ++ 10 ∷ []
 
--- `get`: the value's bytes and LF go out, and the file, where it was no fault, stays as it is
+-- `get`: the value's bytes and LF go out, and each file stays as it is
 pub record RanGet (c : KeyWords) (before after : World) (finish : Finish) : Type 0 where
   pub call : RanCall false get_reply c.key (before.files c.file) (after.files c.file) finish
-  pub others : SameBut c.file before.files after.files
+  pub files : (name : List ℕ) → after.files name ≡ before.files name
   pub left : after.left ≡ before.left
   pub printed : finish.status ≡ 0 → (line : List ℕ) × IsLine c.key (or_empty (before.files c.file)) line × Appends before.held after.held line
   pub silent : (finish.status ≡ 3) ⊎ (finish.status ≡ 6) → after.held ≡ before.held

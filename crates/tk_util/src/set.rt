@@ -1,12 +1,12 @@
 ghost use Rattle.std.specs.Prelude.{◌≡◌, ◌≢◌, ◌≤◌, ◌<◌, ◌^◌, ◌⊎◌, ℕ, List, [], ◌∷◌, length, true, false, Option, IfOk, IfSome, OnOk, Some, Err};
 ghost use Rattle.tk_model.specs.declared.record.Pair.{Pair};
-ghost use Rattle.tk_disk.specs.Crash.{Within};
+ghost use Rattle.tk_disk.specs.Crash.{Within, Only};
 ghost use Rattle.tk_disk.specs.Disk.{Rose, HasFaultCause};
 ghost use Rattle.tk_disk.specs.Folder.{NoneOut, or_empty};
 ghost use Rattle.tk_proc.specs.Replies.{set_reply};
 ghost use Rattle.tk_util.specs.Asked.{set_said};
 ghost use Rattle.tk_util.specs.Calls.{Spares};
-ghost use Rattle.tk_util.specs.Done.{CallDone, FreshAnswer};
+ghost use Rattle.tk_util.specs.Done.{CallDone, CrashDone, FreshAnswer};
 ghost use Rattle.tk_util.specs.Ran.{RanSet, Settled, new_head, set_text, IsRunStatus, IsEnd};
 ghost use Rattle.tk_util.specs.Words.{Set};
 
@@ -57,6 +57,8 @@ fn set_fresh<D: Disk>(
     ensures kept { IfSome (D.image disk.old) (λ f. f ≢ [] → D.image disk.new ≡ D.image disk.old) }
     ensures no_memory { result ≡ Err DiskError.NoMemory → D.image disk.new ≡ D.image disk.old }
     ensures left { IfSome (D.image disk.old) (λ f. f ≢ [] → Within (D.may_leave disk.old) (D.may_leave disk.new)) }
+    ensures durable { IfOk result (λ b. b ≡ true → IfSome (D.image disk.new) (λ f. Only f (D.may_leave disk.new))) }
+    ensures unwritten { IfOk result (λ b. b ≡ false → Within (D.may_leave disk.old) (D.may_leave disk.new)) }
     ensures cause { HasFaultCause (D.fault_count disk.old) (D.fault_count disk.new) result }
 {
     if disk.len()? > 0 {
@@ -79,6 +81,7 @@ fn set_more<D: Disk>(alloc: Global, disk: D, key: &[u8], value: &[u8]) -> Called
     requires value { length value.now ≤ 16777215 }
     ensures call { IfSome (D.image disk) (λ f. CallDone true (set_reply value.now true) key.now f (D.image result.disk) result.answer) }
     ensures spared { IfSome (D.image disk) (λ f. Spares f (D.may_leave disk) (D.may_leave result.disk)) }
+    ensures crash { CrashDone result.answer (D.may_leave disk) (D.may_leave result.disk) (D.image result.disk) }
     ensures kept { OnOk result.answer (D.fault_count result.disk ≡ D.fault_count disk) }
     ensures later { D.fault_count disk ≤ D.fault_count result.disk }
     ensures fault { result.answer ≡ Err Stop.Fault → Rose (D.fault_count disk) (D.fault_count result.disk) }
@@ -104,6 +107,7 @@ fn set_on<D: Disk>(alloc: Global, mut disk: D, key: &[u8], value: &[u8]) -> Call
     ensures more { IfSome (D.image disk) (λ f. f ≢ [] → CallDone true (set_reply value.now true) key.now f (D.image result.disk) result.answer) }
     ensures no_memory { IfSome (D.image disk) (λ f. result.answer ≡ Err Stop.NoMemory → D.image result.disk ≡ Some f) }
     ensures spared { IfSome (D.image disk) (λ f. Spares f (D.may_leave disk) (D.may_leave result.disk)) }
+    ensures crash { CrashDone result.answer (D.may_leave disk) (D.may_leave result.disk) (D.image result.disk) }
     ensures kept { OnOk result.answer (D.fault_count result.disk ≡ D.fault_count disk) }
     ensures later { D.fault_count disk ≤ D.fault_count result.disk }
     ensures fault { result.answer ≡ Err Stop.Fault → Rose (D.fault_count disk) (D.fault_count result.disk) }
@@ -136,6 +140,8 @@ pub(crate) fn run_set<F: Folder>(alloc: Global, set: SetOperands<'_>, folder: &m
         → Settled (Set (set_said set.entry)) (record { files = F.file folder.old; left = left; held = held }) (record { files = F.file folder.new; left = left; held = held })
         ⊎ Rose (F.disk_faults folder.old set.entry.file.now) (F.disk_faults folder.new set.entry.file.now) }
     ensures spared { F.tells folder.old ≡ true → Spares (or_empty (F.file folder.old set.entry.file.now)) (F.leaves folder.old set.entry.file.now) (F.leaves folder.new set.entry.file.now) }
+    ensures still { result.status ≡ 3 → Within (F.leaves folder.old set.entry.file.now) (F.leaves folder.new set.entry.file.now) }
+    ensures durable { (result.status ≡ 0) ⊎ (result.status ≡ 6) → F.tells folder.old ≡ true → IfSome (F.file folder.new set.entry.file.now) (λ f. Only f (F.leaves folder.new set.entry.file.now)) }
     ensures fields { IsEnd result }
     ensures status { IsRunStatus result.status }
     ensures clean { result.status ≡ 0 → (F.fault_count folder.new ≡ F.fault_count folder.old) × (F.disk_faults folder.new set.entry.file.now ≡ F.disk_faults folder.old set.entry.file.now) }

@@ -2,6 +2,7 @@ use Rattle.std.proofs.Common.{refl, ◌∙◌, ap, inl, inr}
 use Rattle.tk_status.specs.Finish.{ended}
 use Rattle.tk_status.specs.declared.finish.Finish.{Finish}
 use Rattle.tk_util.proofs.Endings.{ran_call, ran_absent, ran_stopped, empty_refused, there, from_none, from_some, on_some, two_names, settled_call, rose_moved}
+use Rattle.tk_util.proofs.Crashing.{still_through, durable_through}
 use Rattle.tk_util.proofs.Sparing.{spares_history, spares_through}
 use Rattle.tk_util.proofs.key.run_remove.Goals as goal
 
@@ -45,3 +46,12 @@ returns-in-Err-NoMemory-clause-spared g c = λ tells. spares_history _ _ _ _ _ _
 pub returns-clause-spared : goal.returns-clause-spared
 returns-clause-spared g c = λ tells.
     spares_through _ _ _ _ _ _ (from_some _ _ _ c.in-Ok-Some.field-0-is c.in-Ok-Some.ensures.image tells) c.remove_from-disk.ensures.spared (from_some _ _ _ c.in-Ok-Some.field-0-is c.in-Ok-Some.ensures.crash).crash c.give-given.ensures.crash.crash
+
+pub returns-in-Ok-None-clause-still : goal.returns-in-Ok-None-clause-still
+returns-in-Ok-None-clause-still g c = λ e. (from_none _ c.in-Ok-None.field-0-is c.in-Ok-None.ensures.none_crash).crash
+
+pub returns-clause-still : goal.returns-clause-still
+returns-clause-still g c = λ e. still_through _ _ _ _ _ _ _ _ (from_some _ _ _ c.in-Ok-Some.field-0-is c.in-Ok-Some.ensures.crash).crash c.remove_from-disk.ensures.crash c.give-given.ensures.crash.crash c.end_of.ensures e
+
+pub returns-clause-durable : goal.returns-clause-durable
+returns-clause-durable g c = λ either tells. durable_through _ _ _ _ _ _ _ _ c.remove_from-disk.ensures.crash c.give-given.ensures.crash.crash (c.give-given.ensures.here (c.take.ensures.tells ∙ tells)) c.end_of.ensures either

@@ -8,6 +8,7 @@ use Rattle.tk_util.specs.Ends.{call_end}
 use Rattle.tk_util.specs.Ran.{RanSet}
 use Rattle.tk_util.proofs.Endings.{ran, has_bytes, from_some, two_names, told_call, no_fault, rose_moved}
 use Rattle.tk_util.proofs.SetEndings.{ok_fresh, fresh_end, memory_end, not_made}
+use Rattle.tk_util.proofs.Crashing.{still_through, durable_through}
 use Rattle.tk_util.proofs.Sparing.{spares_history, spares_through}
 use Rattle.tk_util.proofs.set.run_set.Given as Given
 use Rattle.tk_util.proofs.set.run_set.Goals as goal
@@ -48,3 +49,9 @@ returns-in-Err-NoMemory-clause-spared g c = λ tells. spares_history _ _ _ _ _ _
 pub returns-clause-spared : goal.returns-clause-spared
 returns-clause-spared g c = λ tells.
     spares_through _ _ _ _ _ _ (from_some _ _ _ c.in-Ok-Some.field-0-is c.in-Ok-Some.ensures.image tells) c.set_on-disk.ensures.spared (from_some _ _ _ c.in-Ok-Some.field-0-is c.in-Ok-Some.ensures.crash).crash c.give-given.ensures.crash.crash
+
+pub returns-clause-still : goal.returns-clause-still
+returns-clause-still g c = λ e. still_through _ _ _ _ _ _ _ _ (from_some _ _ _ c.in-Ok-Some.field-0-is c.in-Ok-Some.ensures.crash).crash c.set_on-disk.ensures.crash c.give-given.ensures.crash.crash c.end_of.ensures e
+
+pub returns-clause-durable : goal.returns-clause-durable
+returns-clause-durable g c = λ either tells. durable_through _ _ _ _ _ _ _ _ c.set_on-disk.ensures.crash c.give-given.ensures.crash.crash (c.give-given.ensures.here (c.take.ensures.tells ∙ tells)) c.end_of.ensures either
