@@ -14,7 +14,7 @@ use Rattle.tk_util.specs.declared.call.Stop.TheVariants as stops
 use Rattle.tk_model.specs.declared.error.OpenError.TheVariants.{NotADatabase}
 use Rattle.tk_append.specs.Opening.{first_fault}
 use Rattle.tk_util.specs.Calls.{RefusedAt, Holds}
-use Rattle.tk_util.specs.Ran.{Replied, RanCall, value_in}
+use Rattle.tk_util.specs.Ran.{Replied, RanCall, IsClear, value_in}
 use Rattle.tk_util.specs.Done.{IsMade, CallDone}
 use Rattle.tk_util.specs.Ends.{call_end}
 
@@ -164,10 +164,6 @@ pub found_call : (key : List ℕ) (reply : Option (List ℕ) → Reply) (f : Lis
 found_call key reply f o0 o1 value answer given finish taken made is e =
     found_in key reply f o1 value answer given finish (told_call o0 f (λ f. IfOk answer (λ s. IsMade false reply key f o1 value)) taken made) is e
 
--- a file that was only read stays
-pub kept_call : (reply : Option (List ℕ) → Reply) (key : List ℕ) (before after : Option (List ℕ)) (finish : Finish) → before ≡ Some (or_empty before) → RanCall false reply key before after finish → finish.status ≡ 0 → after ≡ before
-kept_call reply key before after finish some call e = let r = call.done e in r.after_is ∙ ap (λ (f : List ℕ). Some f) (sym r.holds.file) ∙ sym some
-
 -- a status of success comes of a value
 pub value_there : (value : Option (List ℕ)) (answer : Result Status Stop) (given : Result (Unit {0}) DiskError) (finish : Finish) → IfOk answer (λ s. s ≡ (get_reply value).status) → finish ≡ call_end answer given → finish.status ≡ 0 → IsSome value
 value_there (Some v) answer given finish is ends e = refl
@@ -180,21 +176,25 @@ value_there None (Err stops.Fault) given finish is ends e = absurd (not_status f
 value_there None (Err stops.NoMemory) (Ok g) finish is ends e = absurd (not_status finish (ended 5) 0 ends (λ h. cc h) e)
 value_there None (Err stops.NoMemory) (Err x) finish is ends e = absurd (not_status finish (ended 4) 0 ends (λ h. cc h) e)
 
+clear_answer : (b : Bool) (n : ℕ) → IsClear (if b then ended 0 else answered n).status
+clear_answer true n = inl refl
+clear_answer false n = inr (inr (inr refl))
+
 -- the end of a call, where its disk is given back, is no fault unless the call's answer is one
-pub no_fault : {R : Finish → Type 0} {P : Type 0} (answer : Result Status Stop) (finish : Finish) → finish ≡ call_end answer (Ok tt) → (answer ≡ Err stops.Fault → P) → ((f : Finish) → f ≡ call_end answer (Ok tt) → R f)
-    → ((end : Finish) × (end.status ≢ 4) × R end) ⊎ P
-no_fault (Ok s) finish is fault ran = inl (finish, (λ e. other_status s finish 4 (λ h. cc h) (λ h. cc h) is e), ran finish is)
-no_fault (Err (stops.Refused place)) finish is fault ran = inl (finish, (λ e. not_status finish (refused_at 0 place) 4 is (λ h. cc h) e), ran finish is)
-no_fault (Err stops.Full) finish is fault ran = inl (finish, (λ e. not_status finish (answered 21) 4 is (λ h. cc h) e), ran finish is)
-no_fault (Err stops.Fault) finish is fault ran = inr (fault refl)
-no_fault (Err stops.NoMemory) finish is fault ran = inl (finish, (λ e. not_status finish (ended 5) 4 is (λ h. cc h) e), ran finish is)
+pub no_fault : {R : Finish → Type 0} {P : Type 0} (answer : Result Status Stop) → (answer ≡ Err stops.Fault → P) → ((finish : Finish) → finish ≡ call_end answer (Ok tt) → R finish)
+    → ((end : Finish) × IsClear end.status × R end) ⊎ P
+no_fault (Ok s) fault ran = inl (ended_by s, clear_answer (number_of s == 0) (number_of s), ran (ended_by s) refl)
+no_fault (Err (stops.Refused place)) fault ran = inl (refused_at 0 place, inr (inl refl), ran (refused_at 0 place) refl)
+no_fault (Err stops.Full) fault ran = inl (answered 21, inr (inr (inr refl)), ran (answered 21) refl)
+no_fault (Err stops.Fault) fault ran = inr (fault refl)
+no_fault (Err stops.NoMemory) fault ran = inl (ended 5, inr (inr (inl refl)), ran (ended 5) refl)
 
 -- a call that met no fault ends without one, if the disk is given back
 pub settled_call : (writable : Bool) (reply : Option (List ℕ) → Reply) (key : List ℕ) (before after o0 o1 : Option (List ℕ)) (answer : Result Status Stop) (P : Type 0)
     → before ≡ Some (or_empty before) → o0 ≡ Some (or_empty before) → IfSome o0 (λ f. CallDone writable reply key f o1 answer) → after ≡ o1 → (answer ≡ Err stops.Fault → P)
-    → ((end : Finish) × (end.status ≢ 4) × RanCall writable reply key before after end) ⊎ P
+    → ((end : Finish) × IsClear end.status × RanCall writable reply key before after end) ⊎ P
 settled_call writable reply key before after o0 o1 answer P some taken call back fault =
-    no_fault answer (call_end answer (Ok tt)) refl fault (λ finish is. ran_call writable reply key before after o0 o1 answer (Ok tt) finish some taken call back is)
+    no_fault answer fault (λ finish is. ran_call writable reply key before after o0 o1 answer (Ok tt) finish some taken call back is)
 
 pub rose_moved : (p q old new : ℕ) → p ≡ old → new ≡ q → Rose p q → Rose old new
 rose_moved p q old new first last rose = subst (λ (n : ℕ). Rose n new) first (subst (λ (n : ℕ). Rose p n) (sym last) rose)

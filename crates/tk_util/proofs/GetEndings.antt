@@ -38,7 +38,7 @@ module _ (c : KeyWords) (before after : World) (value : Option (List ℕ)) (foun
   pub got_line : (v : List ℕ) → value ≡ Some v → found.status ≡ 0 → Appends before.held after.held (v ++ 10 ∷ []) → RanGet c before after found
   got_line v is e out = record {
     call = looked.call;
-    others = looked.others;
+    files = looked.files;
     left = left_is;
     printed = λ _. (v ++ 10 ∷ [], line_of v is e, out);
     silent = λ other. absurd (zero_alone found other e);
@@ -48,8 +48,8 @@ module _ (c : KeyWords) (before after : World) (value : Option (List ℕ)) (foun
   -- a front of it did
   pub got_front : (finish : Finish) (v : List ℕ) → (finish ≡ ended 4) ⊎ (finish ≡ ended 5) → value ≡ Some v → found.status ≡ 0 → AppendsFront before.held after.held (v ++ 10 ∷ []) → RanGet c before after finish
   got_front finish v stops is e out = record {
-    call = ran_stopped false get_reply c.key (before.files c.file) (after.files c.file) finish stops (looked.kept e);
-    others = looked.others;
+    call = ran_stopped false get_reply c.key (before.files c.file) (after.files c.file) finish stops (looked.files c.file);
+    files = looked.files;
     left = left_is;
     printed = λ z. absurd (stopped_other finish 0 stops (λ h. cc h) (λ h. cc h) z);
     silent = λ other. absurd (not_silent finish stops other);

@@ -1,4 +1,5 @@
 pub mod CallSteps
+pub mod Crashing
 pub mod Endings
 pub mod GetEndings
 pub mod Names

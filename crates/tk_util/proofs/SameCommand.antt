@@ -1,5 +1,5 @@
 -- The words ask for one command.
-use Rattle.std.proofs.Common.{◌≡◌, ℕ, true, false, List, subst}
+use Rattle.std.proofs.Common.{◌≡◌, ℕ, true, false, List, subst, inl, inr}
 use Rattle.std.specs.Prelude.{Option, Some, ◌⊎◌}
 use Rattle.tk_disk.specs.Disk.{Rose}
 use Rattle.tk_status.specs.declared.finish.Finish.{Finish}
@@ -23,3 +23,8 @@ get_reads o c k one other may =
     let same : c ≡ Get k = cc (one, other) in
     let wrong : false ≡ true = subst (λ (x : Command). writes x ≡ true) same may in
     cc wrong
+
+-- a command that may write ends so only by its status
+pub written : {A B : Type 0} → (A → B) → (true ≡ false) ⊎ A → B
+written p (inl e) = absurd (cc e)
+written p (inr a) = p a

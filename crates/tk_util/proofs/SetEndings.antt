@@ -1,5 +1,5 @@
 -- `set` on a file that has bytes.
-use Rattle.std.proofs.Common.{◌≡◌, ◌≢◌, ℕ, true, List, [], refl, sym, ◌∙◌, ap, subst, inr}
+use Rattle.std.proofs.Common.{◌≡◌, ◌≢◌, ℕ, true, List, [], refl, sym, ◌∙◌, ap, subst, inl, inr}
 use Rattle.std.specs.Prelude.{Option, Some, None, IfSome, OnOk, Result, Ok, Err}
 use Rattle.tk_disk.specs.declared.disk.DiskError.{DiskError}
 use Rattle.tk_status.specs.declared.Status.{Status}
@@ -13,7 +13,7 @@ use Rattle.tk_util.specs.Ends.{call_end}
 use Rattle.tk_util.proofs.Endings.{not_status, other_status, ran_stopped}
 use Rattle.tk_disk.specs.Folder.{or_empty, SameBut}
 use Rattle.tk_proc.specs.Replies.{set_reply}
-use Rattle.tk_util.specs.Ran.{RanSet}
+use Rattle.tk_util.specs.Ran.{RanSet, IsClear}
 use Rattle.tk_util.specs.Words.{SetWords}
 use Rattle.tk_util.specs.World.{World}
 
@@ -59,10 +59,10 @@ memory_end (Err stops.NoMemory) given finish is e = refl
 
 -- nothing was done: an end for want of memory leaves it so
 pub not_made : (c : SetWords) (before after : World) → after.files c.file ≡ before.files c.file → SameBut c.file before.files after.files → after.left ≡ before.left → after.held ≡ before.held
-    → (end : Finish) × (end.status ≢ 4) × RanSet c before after end
+    → (end : Finish) × IsClear end.status × RanSet c before after end
 not_made c before after same others left held = (
   ended 5,
-  (λ h. cc h),
+  inr (inr (inl refl)),
   record {
     fresh = λ empty e. absurd (cc e);
     fresh_ends = λ empty. ((λ h. cc h), (λ h. cc h));

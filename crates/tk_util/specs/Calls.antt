@@ -11,6 +11,7 @@ use Rattle.tk_model.specs.declared.error.OpenError.{OpenError}
 use Rattle.tk_model.specs.declared.error.OpenError.TheVariants as errors
 use Rattle.tk_status.specs.declared.Status.{Status}
 use Rattle.tk_proc.specs.Runs.{short_status}
+use Rattle.tk_disk.specs.Crash.{Within}
 use Rattle.tk_store.specs.Store.{extent_of, is_over}
 use Rattle.tk_store.specs.OneRecord.{call_changes}
 use Rattle.tk_block.specs.declared.head.StaticHead.{StaticHead}
@@ -35,6 +36,11 @@ pub record Holds (writable : Bool) (f : List ℕ) : Type 0 where
 -- where each image of a file has the header and the blocks of its groups, each later image has them
 abbrev pub Spares : (f : List ℕ) → (left leaves : List ℕ → Type 0) → Type 0
 Spares f left leaves = (holds : Holds true f) → ((d : List ℕ) → left d → IsKept holds.head holds.groups d) → (c : List ℕ) → leaves c → IsKept holds.head holds.groups c
+
+-- a disk was read at most: it holds what it held, and a crash leaves nothing that it didn't before
+pub record IsStill (before after : Option (List ℕ)) (left leaves : List ℕ → Type 0) : Type 0 where
+  pub same : after ≡ before
+  pub crash : Within left leaves
 
 -- the bytes that changes need pass the limit of a file
 abbrev pub passes : (f : List ℕ) → List Change → Bool

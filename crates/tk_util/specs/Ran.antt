@@ -87,10 +87,10 @@ pub record IsLine (key f line : List ℕ) : Type 0 where
   pub found : value_in holds.groups key ≡ Some value
   pub line_is : line ≡ value ++ 10 ∷ []
 
--- `get`: the value's bytes and LF go out, and the file, where it was no fault, stays as it is
+-- `get`: the value's bytes and LF go out, and each file stays as it is
 pub record RanGet (c : KeyWords) (before after : World) (finish : Finish) : Type 0 where
   pub call : RanCall false get_reply c.key (before.files c.file) (after.files c.file) finish
-  pub others : SameBut c.file before.files after.files
+  pub files : (name : List ℕ) → after.files name ≡ before.files name
   pub left : after.left ≡ before.left
   pub printed : finish.status ≡ 0 → (line : List ℕ) × IsLine c.key (or_empty (before.files c.file)) line × Appends before.held after.held line
   pub silent : (finish.status ≡ 3) ⊎ (finish.status ≡ 6) → after.held ≡ before.held
@@ -119,13 +119,17 @@ RanFile (Get c) before after finish = RanCall false get_reply c.key (before.file
 RanFile (Set c) before after finish = RanSet c before after finish
 RanFile (Remove c) before after finish = RanCall true remove_reply c.key (before.files c.file) (after.files c.file) finish
 
+-- the statuses of an end without a fault
+abbrev pub IsClear : ℕ → Type 0
+IsClear status = (status ≡ 0) ⊎ ((status ≡ 3) ⊎ ((status ≡ 5) ⊎ (status ≡ 6)))
+
 -- the file is as an end without a fault leaves it
 abbrev pub Settled : Command → (before after : World) → Type 0
-Settled c before after = (end : Finish) × (end.status ≢ 4) × RanFile c before after end
+Settled c before after = (end : Finish) × IsClear end.status × RanFile c before after end
 
 -- a command whose words were read ends with one of these statuses
 abbrev pub IsRunStatus : ℕ → Type 0
-IsRunStatus status = (status ≡ 0) ⊎ ((status ≡ 3) ⊎ ((status ≡ 4) ⊎ ((status ≡ 5) ⊎ (status ≡ 6))))
+IsRunStatus status = (status ≡ 4) ⊎ IsClear status
 
 -- fields that the status doesn't use are 0
 abbrev pub IsEnd : Finish → Type 0

@@ -3,12 +3,14 @@ ghost use Rattle.std.specs.Prelude.{◌≡◌, ◌⊎◌, ◌-◌, ◌<◌, ◌�
 ghost use Rattle.std.specs.Option.{is_some};
 ghost use Rattle.tk_model.specs.declared.record.Action.TheVariants.{Keep};
 ghost use Rattle.tk_model.specs.declared.record.Group.{Group};
+ghost use Rattle.tk_disk.specs.Crash.{Only};
 ghost use Rattle.tk_disk.specs.Disk.{Rose};
 ghost use Rattle.tk_append.specs.Log.{closed_text};
 ghost use Rattle.tk_store.specs.Store.{IsWhole, LeavesSafe};
 ghost use Rattle.tk_util.specs.declared.call.Stop.{Stop as Stopped};
-ghost use Rattle.tk_util.specs.Calls.{Made, NoRoom, RefusedAt, MadeOn, NoRoomOn, StopTells, Spares};
-ghost use Rattle.tk_hash.specs.Hash.{HashStands, HashSafe, HashStood, hash_disk, hash_head, hash_nature, hash_shown, opening};
+ghost use Rattle.tk_util.specs.Calls.{Made, NoRoom, RefusedAt, MadeOn, NoRoomOn, StopTells, Spares, IsStill};
+ghost use Rattle.tk_util.specs.Done.{CrashDone};
+ghost use Rattle.tk_hash.specs.Hash.{HashStands, HashSafe, HashStood, HashUntouched, hash_disk, hash_head, hash_nature, hash_shown, opening};
 
 use std::alloc::Global;
 use tk_disk::Disk;
@@ -64,6 +66,8 @@ fn end_call<D: Disk>(store: &mut HashStore<D>, next: u64) -> Result<(), Stop>
     ensures later { D.fault_count (hash_disk store.old) ≤ D.fault_count (hash_disk store.new) }
     ensures fault { OnErr result (Rose (D.fault_count (hash_disk store.old)) (D.fault_count (hash_disk store.new))) }
     ensures safe { LeavesSafe (HashStood D.image D.may_leave D.moment D.left_since) (HashSafe D.image D.left_since) [] store.old store.new }
+    ensures durable { (hash_nature store.old).writable ≡ true → OnOk result (IfSome (D.image (hash_disk store.new)) (λ f. Only f (D.may_leave (hash_disk store.new)))) }
+    ensures reads { (hash_nature store.old).writable ≡ false → HashUntouched D.image D.may_leave D.moment D.left_since store.old store.new }
     ensures nature { hash_nature store.new ≡ hash_nature store.old }
     ensures told { is_some (hash_shown D.image store.new).map ≡ is_some (hash_shown D.image store.old).map }
     ensures time { D.moment (hash_disk store.old) ≤ D.moment (hash_disk store.new) }
@@ -96,6 +100,8 @@ fn call_on<D: Disk, P: RecordProcessor>(
     ensures taken { (place : ℕ) → result ≡ Err (Stop.Refused place) → ⊥ }
     ensures safe { (groups : List Group) → HashStands D.image D.may_leave store.old (opening groups) [] 0 → IfSome (D.image (hash_disk store.old)) (λ _.
         (since : List Group) × HashSafe D.image D.left_since store.new (D.moment (hash_disk store.old)) (opening groups) since 0) }
+    ensures crash { (hash_nature store.old).writable ≡ true → CrashDone result (D.may_leave (hash_disk store.old)) (D.may_leave (hash_disk store.new)) (D.image (hash_disk store.new)) }
+    ensures reads { (hash_nature store.old).writable ≡ false → IsStill (D.image (hash_disk store.old)) (D.image (hash_disk store.new)) (D.may_leave (hash_disk store.old)) (D.may_leave (hash_disk store.new)) }
     ensures nature { hash_nature store.new ≡ hash_nature store.old }
     ensures told { is_some (hash_shown D.image store.new).map ≡ is_some (hash_shown D.image store.old).map }
     ensures time { D.moment (hash_disk store.old) ≤ D.moment (hash_disk store.new) }
@@ -136,6 +142,8 @@ pub(crate) fn run_call<D: Disk, P: RecordProcessor>(
     ensures refused { IfSome (D.image disk) (λ f. (place : ℕ) → result.answer ≡ Err (Stop.Refused place) → RefusedAt writable f place × (D.image result.disk ≡ Some f)) }
     ensures no_memory { IfSome (D.image disk) (λ f. result.answer ≡ Err Stop.NoMemory → D.image result.disk ≡ Some f) }
     ensures spared { writable ≡ true → IfSome (D.image disk) (λ f. Spares f (D.may_leave disk) (D.may_leave result.disk)) }
+    ensures crash { writable ≡ true → CrashDone result.answer (D.may_leave disk) (D.may_leave result.disk) (D.image result.disk) }
+    ensures reads { writable ≡ false → IsStill (D.image disk) (D.image result.disk) (D.may_leave disk) (D.may_leave result.disk) }
     ensures kept { OnOk result.answer (D.fault_count result.disk ≡ D.fault_count disk) }
     ensures later { D.fault_count disk ≤ D.fault_count result.disk }
     ensures fault { result.answer ≡ Err Stop.Fault → Rose (D.fault_count disk) (D.fault_count result.disk) }

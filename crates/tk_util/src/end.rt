@@ -30,10 +30,7 @@ pub(crate) fn end_of(answer: Result<Status, Stop>, given: Result<(), DiskError>)
 pub(crate) fn with_status(answer: Result<Status, Stop>, status: Status) -> Result<Status, Stop>
     ensures { result ≡ with_status answer status }
 {
-    match answer {
-        Ok(_) => Ok(status),
-        Err(stop) => Err(stop),
-    }
+    answer.map(|_| status)
 }
 
 /// Prints a value as a line.

@@ -1,11 +1,12 @@
 //! `get` and `remove`: calls on a file that has to be there.
-ghost use Rattle.std.specs.Prelude.{◌≡◌, ◌≤◌, ◌<◌, ◌^◌, ◌⊎◌, ℕ, List, [], length, true, false, Option, IsSome, IfOk, IfSome, Err, OnOk};
+ghost use Rattle.std.specs.Prelude.{◌≡◌, ◌≢◌, ◌≤◌, ◌<◌, ◌^◌, ◌⊎◌, ℕ, List, [], length, true, false, Option, IsSome, IfOk, IfSome, Err, OnOk};
+ghost use Rattle.tk_disk.specs.Crash.{Within, Only};
 ghost use Rattle.tk_disk.specs.Disk.{Rose};
 ghost use Rattle.tk_disk.specs.Folder.{NoneOut, or_empty};
 ghost use Rattle.tk_proc.specs.Replies.{get_reply, remove_reply};
 ghost use Rattle.tk_util.specs.Asked.{key_said};
-ghost use Rattle.tk_util.specs.Calls.{Spares};
-ghost use Rattle.tk_util.specs.Done.{CallDone, IsMade, LookedUp};
+ghost use Rattle.tk_util.specs.Calls.{Spares, IsStill};
+ghost use Rattle.tk_util.specs.Done.{CallDone, CrashDone, IsMade, LookedUp};
 ghost use Rattle.tk_util.specs.Ran.{RanGet, RanRemove, Settled, IsRunStatus, IsEnd};
 ghost use Rattle.tk_util.specs.Words.{Get, Remove};
 
@@ -24,6 +25,7 @@ fn get_from<D: Disk>(alloc: Global, disk: D, key: &[u8], getter: &mut Getter) ->
     ensures call { IfSome (D.image disk) (λ f. CallDone false get_reply key.now f (D.image result.disk) result.answer) }
     ensures value { IfSome (D.image disk) (λ f. IfOk result.answer (λ s. IsMade false get_reply key.now f (D.image result.disk) getter.new)) }
     ensures status { IfOk result.answer (λ s. s ≡ (get_reply getter.new).status) }
+    ensures reads { IsStill (D.image disk) (D.image result.disk) (D.may_leave disk) (D.may_leave result.disk) }
     ensures kept { OnOk result.answer (D.fault_count result.disk ≡ D.fault_count disk) }
     ensures later { D.fault_count disk ≤ D.fault_count result.disk }
     ensures fault { result.answer ≡ Err Stop.Fault → Rose (D.fault_count disk) (D.fault_count result.disk) }
@@ -38,6 +40,7 @@ fn remove_from<D: Disk>(alloc: Global, disk: D, key: &[u8]) -> Called<D>
     requires key { length key.now < 2 ^ 16 }
     ensures call { IfSome (D.image disk) (λ f. CallDone true remove_reply key.now f (D.image result.disk) result.answer) }
     ensures spared { IfSome (D.image disk) (λ f. Spares f (D.may_leave disk) (D.may_leave result.disk)) }
+    ensures crash { CrashDone result.answer (D.may_leave disk) (D.may_leave result.disk) (D.image result.disk) }
     ensures kept { OnOk result.answer (D.fault_count result.disk ≡ D.fault_count disk) }
     ensures later { D.fault_count disk ≤ D.fault_count result.disk }
     ensures fault { result.answer ≡ Err Stop.Fault → Rose (D.fault_count disk) (D.fault_count result.disk) }
@@ -62,11 +65,15 @@ pub(crate) fn run_remove<F: Folder>(
         → Settled (Remove (key_said remove.entry)) (record { files = F.file folder.old; left = left; held = held }) (record { files = F.file folder.new; left = left; held = held })
         ⊎ Rose (F.disk_faults folder.old remove.entry.file.now) (F.disk_faults folder.new remove.entry.file.now) }
     ensures spared { F.tells folder.old ≡ true → Spares (or_empty (F.file folder.old remove.entry.file.now)) (F.leaves folder.old remove.entry.file.now) (F.leaves folder.new remove.entry.file.now) }
+    ensures still { result.status ≡ 3 → Within (F.leaves folder.old remove.entry.file.now) (F.leaves folder.new remove.entry.file.now) }
+    ensures durable { (result.status ≡ 0) ⊎ (result.status ≡ 6) → F.tells folder.old ≡ true → IfSome (F.file folder.new remove.entry.file.now) (λ f. Only f (F.leaves folder.new remove.entry.file.now)) }
     ensures fields { IsEnd result }
     ensures status { IsRunStatus result.status }
     ensures clean { result.status ≡ 0 → (F.fault_count folder.new ≡ F.fault_count folder.old) × (F.disk_faults folder.new remove.entry.file.now ≡ F.disk_faults folder.old remove.entry.file.now) }
     ensures fault { result.status ≡ 4 → Rose (F.fault_count folder.old) (F.fault_count folder.new)
         ⊎ ((name : List ℕ) × Rose (F.disk_faults folder.old name) (F.disk_faults folder.new name)) }
+    ensures met { result.status ≢ 3 → result.status ≢ 4 → F.fault_count folder.new ≡ F.fault_count folder.old }
+    ensures tells { F.tells folder.new ≡ F.tells folder.old }
     ensures closed { NoneOut (F.is_out folder.new) }
 {
     let disk = match folder.take(remove.file, false) {
@@ -94,11 +101,14 @@ fn look_up<F: Folder>(
         → Settled (Get (key_said get.entry)) (record { files = F.file folder.old; left = left; held = held }) (record { files = F.file folder.new; left = left; held = held })
         ⊎ Rose (F.disk_faults folder.old get.entry.file.now) (F.disk_faults folder.new get.entry.file.now) }
     ensures found { result.status ≡ 0 → IsSome getter.new }
+    ensures still { Within (F.leaves folder.old get.entry.file.now) (F.leaves folder.new get.entry.file.now) }
     ensures fields { IsEnd result }
     ensures status { IsRunStatus result.status }
     ensures clean { result.status ≡ 0 → (F.fault_count folder.new ≡ F.fault_count folder.old) × (F.disk_faults folder.new get.entry.file.now ≡ F.disk_faults folder.old get.entry.file.now) }
     ensures fault { result.status ≡ 4 → Rose (F.fault_count folder.old) (F.fault_count folder.new)
         ⊎ ((name : List ℕ) × Rose (F.disk_faults folder.old name) (F.disk_faults folder.new name)) }
+    ensures met { result.status ≢ 3 → result.status ≢ 4 → F.fault_count folder.new ≡ F.fault_count folder.old }
+    ensures tells { F.tells folder.new ≡ F.tells folder.old }
     ensures closed { NoneOut (F.is_out folder.new) }
 {
     let disk = match folder.take(get.file, false) {
@@ -126,11 +136,14 @@ pub(crate) fn run_get<F: Folder, W: Sink>(
     ensures settled { (left held : Option (List ℕ)) → F.tells folder.old ≡ true
         → Settled (Get (key_said get.entry)) (record { files = F.file folder.old; left = left; held = held }) (record { files = F.file folder.new; left = left; held = held })
         ⊎ Rose (F.disk_faults folder.old get.entry.file.now) (F.disk_faults folder.new get.entry.file.now) }
+    ensures still { Within (F.leaves folder.old get.entry.file.now) (F.leaves folder.new get.entry.file.now) }
     ensures fields { IsEnd result }
     ensures status { IsRunStatus result.status }
     ensures clean { result.status ≡ 0 → (F.fault_count folder.new ≡ F.fault_count folder.old) × (F.disk_faults folder.new get.entry.file.now ≡ F.disk_faults folder.old get.entry.file.now) × (W.fault_count out.new ≡ W.fault_count out.old) }
     ensures fault { result.status ≡ 4 → Rose (F.fault_count folder.old) (F.fault_count folder.new)
         ⊎ (((name : List ℕ) × Rose (F.disk_faults folder.old name) (F.disk_faults folder.new name)) ⊎ Rose (W.fault_count out.old) (W.fault_count out.new)) }
+    ensures met { result.status ≢ 3 → result.status ≢ 4 → F.fault_count folder.new ≡ F.fault_count folder.old }
+    ensures tells { F.tells folder.new ≡ F.tells folder.old }
     ensures closed { NoneOut (F.is_out folder.new) }
 {
     let mut getter = Getter::new(alloc);

@@ -1,4 +1,5 @@
-ghost use Rattle.std.specs.Prelude.{◌≡◌, ◌⊎◌, ◌↔◌, ℕ, List, true, Some, None};
+ghost use Rattle.std.specs.Prelude.{◌≡◌, ◌≢◌, ◌⊎◌, ◌↔◌, ℕ, List, true, false, IfSome, Some, None};
+ghost use Rattle.tk_disk.specs.Crash.{Within, Only};
 ghost use Rattle.tk_disk.specs.Disk.{Rose};
 ghost use Rattle.tk_disk.specs.Folder.{NoneOut, or_empty};
 ghost use Rattle.tk_util.specs.Calls.{Spares};
@@ -31,6 +32,10 @@ pub fn run_util<F: Folder, R: Source, W: Sink>(
         ⊎ Rose (F.disk_faults folder.old (file_of c)) (F.disk_faults folder.new (file_of c)) }
     ensures spared { (c : Command) → command_of (words_of words.now) ≡ Some c → writes c ≡ true → F.tells folder.old ≡ true
         → Spares (or_empty (F.file folder.old (file_of c))) (F.leaves folder.old (file_of c)) (F.leaves folder.new (file_of c)) }
+    ensures still { (c : Command) → command_of (words_of words.now) ≡ Some c → (writes c ≡ false) ⊎ (result.status ≡ 3)
+        → Within (F.leaves folder.old (file_of c)) (F.leaves folder.new (file_of c)) }
+    ensures durable { (c : Command) → command_of (words_of words.now) ≡ Some c → writes c ≡ true → (result.status ≡ 0) ⊎ (result.status ≡ 6) → F.tells folder.old ≡ true
+        → IfSome (F.file folder.new (file_of c)) (λ f. Only f (F.leaves folder.new (file_of c))) }
     ensures left { R.left source.new ≡ R.left source.old }
     ensures fields { IsEnd result }
     ensures status { (c : Command) → command_of (words_of words.now) ≡ Some c → IsRunStatus result.status }
@@ -38,6 +43,8 @@ pub fn run_util<F: Folder, R: Source, W: Sink>(
         → (F.fault_count folder.new ≡ F.fault_count folder.old) × (F.disk_faults folder.new (file_of c) ≡ F.disk_faults folder.old (file_of c)) × (W.fault_count out.new ≡ W.fault_count out.old) }
     ensures fault { result.status ≡ 4 → Rose (F.fault_count folder.old) (F.fault_count folder.new)
         ⊎ (((name : List ℕ) × Rose (F.disk_faults folder.old name) (F.disk_faults folder.new name)) ⊎ Rose (W.fault_count out.old) (W.fault_count out.new)) }
+    ensures met { result.status ≢ 3 → result.status ≢ 4 → F.fault_count folder.new ≡ F.fault_count folder.old }
+    ensures tells { F.tells folder.new ≡ F.tells folder.old }
     ensures closed { NoneOut (F.is_out folder.new) }
 {
     let _ = source;

@@ -2,6 +2,7 @@ use Rattle.std.proofs.Common.{◌≡◌, Some, ◌∙◌}
 use Rattle.tk_util.specs.Calls.{RefusedAt}
 use Rattle.tk_hash.specs.Hash.{hash_disk}
 use Rattle.tk_util.proofs.CallSteps.{made_at, no_room_at, no_place}
+use Rattle.tk_util.proofs.Crashing.{crash_opened, crash_unopened, still_opened}
 use Rattle.tk_util.proofs.Sparing.{spared_at, spared_back}
 use Rattle.tk_util.proofs.call.run_call.Goals as goal
 
@@ -27,3 +28,19 @@ returns-in-Err-clause-spared g c = λ may.
 pub returns-clause-refused : goal.returns-clause-refused
 returns-clause-refused g c =
     no_place (g.D.Disk.image c.args.disk) c.call_on-answer.result (λ f place. RefusedAt c.args.writable f place × (g.D.Disk.image c.into_disk.result ≡ Some f)) c.call_on-answer.ensures.taken
+
+pub returns-clause-crash : goal.returns-clause-crash
+returns-clause-crash g c = λ may.
+    crash_opened g.D.Disk.image g.D.Disk.may_leave c.call_on-answer.result (g.D.Disk.may_leave c.args.disk) (g.D.Disk.may_leave (hash_disk c.in-Ok.store)) (hash_disk c.call_on-answer.new.store) c.into_disk.result
+    c.call_on-answer.ensures.taken c.into_disk.ensures (c.call_on-answer.ensures.crash (c.in-Ok.ensures.mode.0 ∙ may))
+
+pub returns-in-Err-clause-crash : goal.returns-in-Err-clause-crash
+returns-in-Err-clause-crash g c = λ may. crash_unopened _ _ _ _ _ c.unopened.ensures (λ other. (c.in-Err.ensures.back_still other).crash)
+
+pub returns-clause-reads : goal.returns-clause-reads
+returns-clause-reads g c = λ reads.
+    still_opened g.D.Disk.image g.D.Disk.may_leave c.args.disk (hash_disk c.in-Ok.store) (hash_disk c.call_on-answer.new.store) c.into_disk.result
+    (c.in-Ok.ensures.reads reads) (c.in-Ok.ensures.reads_still reads).crash c.into_disk.ensures (c.call_on-answer.ensures.reads (c.in-Ok.ensures.mode.0 ∙ reads))
+
+pub returns-in-Err-clause-reads : goal.returns-in-Err-clause-reads
+returns-in-Err-clause-reads g c = λ reads. record { same = c.in-Err.ensures.back_reads reads; crash = (c.in-Err.ensures.back_reads_still reads).crash }

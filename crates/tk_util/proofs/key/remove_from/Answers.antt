@@ -1,5 +1,6 @@
 use Rattle.std.proofs.Common.{refl, sym}
 use Rattle.tk_proc.specs.Replies.{remove_reply}
+use Rattle.tk_util.proofs.Crashing.{crash_with}
 use Rattle.tk_util.proofs.Ready.{remove_fits}
 use Rattle.tk_util.proofs.Replies.{called_done}
 use Rattle.tk_util.proofs.key.remove_from.Goals as goal
@@ -9,3 +10,6 @@ returns-clause-call g c =
     called_done _ _ remove_reply _ _ (λ was. refl) remove_fits _ _ _ _ _ _ _
     c.run_call-disk.ensures.made c.run_call-disk.ensures.no_room c.run_call-disk.ensures.refused c.run_call-disk.ensures.no_memory
     (λ was new. c.status.ensures was (sym new)) c.with_status-answer.ensures
+
+pub returns-clause-crash : goal.returns-clause-crash
+returns-clause-crash g c = crash_with _ _ _ _ _ _ (c.run_call-disk.ensures.crash refl) c.with_status-answer.ensures

@@ -8,12 +8,13 @@ use Rattle.tk_util.specs.Ends.{call_end}
 use Rattle.tk_util.specs.Ran.{RanSet}
 use Rattle.tk_util.proofs.Endings.{ran, has_bytes, from_some, two_names, told_call, no_fault, rose_moved}
 use Rattle.tk_util.proofs.SetEndings.{ok_fresh, fresh_end, memory_end, not_made}
+use Rattle.tk_util.proofs.Crashing.{still_through, durable_through}
 use Rattle.tk_util.proofs.Sparing.{spares_history, spares_through}
 use Rattle.tk_util.proofs.set.run_set.Given as Given
 use Rattle.tk_util.proofs.set.run_set.Goals as goal
 
 -- the call, whatever giving the disk back answered
-built : (g : Given.Over) (c : goal.After-drop-pairs-inside-2 g) (left held : Option (List ℕ)) → g.F.Folder.tells c.args.folder.now ≡ true → (given : Result (Unit {0}) DiskError) (finish : Finish)
+built : (g : Given.Over) (c : goal.After-end_of g) (left held : Option (List ℕ)) → g.F.Folder.tells c.args.folder.now ≡ true → (given : Result (Unit {0}) DiskError) (finish : Finish)
     → finish ≡ call_end c.set_on-disk.result.answer given
     → RanSet (set_said c.args.set) (record { files = g.F.Folder.file c.args.folder.now; left = left; held = held }) (record { files = g.F.Folder.file c.give-given.new.self; left = left; held = held }) finish
 built g c left held tells given finish is =
@@ -32,7 +33,7 @@ returns-clause-ran g c = λ left held tells. built g c left held tells c.give-gi
 
 pub returns-clause-settled : goal.returns-clause-settled
 returns-clause-settled g c = λ left held tells.
-    no_fault c.set_on-disk.result.answer (call_end c.set_on-disk.result.answer (Ok tt)) refl
+    no_fault c.set_on-disk.result.answer
     (λ e. rose_moved _ _ _ _ (from_some _ _ _ c.in-Ok-Some.field-0-is c.in-Ok-Some.ensures.count) c.give-given.ensures.count (c.set_on-disk.ensures.fault e))
     (λ finish is. built g c left held tells (Ok tt) finish is)
 
@@ -48,3 +49,9 @@ returns-in-Err-NoMemory-clause-spared g c = λ tells. spares_history _ _ _ _ _ _
 pub returns-clause-spared : goal.returns-clause-spared
 returns-clause-spared g c = λ tells.
     spares_through _ _ _ _ _ _ (from_some _ _ _ c.in-Ok-Some.field-0-is c.in-Ok-Some.ensures.image tells) c.set_on-disk.ensures.spared (from_some _ _ _ c.in-Ok-Some.field-0-is c.in-Ok-Some.ensures.crash).crash c.give-given.ensures.crash.crash
+
+pub returns-clause-still : goal.returns-clause-still
+returns-clause-still g c = λ e. still_through _ _ _ _ _ _ _ _ (from_some _ _ _ c.in-Ok-Some.field-0-is c.in-Ok-Some.ensures.crash).crash c.set_on-disk.ensures.crash c.give-given.ensures.crash.crash c.end_of.ensures e
+
+pub returns-clause-durable : goal.returns-clause-durable
+returns-clause-durable g c = λ either tells. durable_through _ _ _ _ _ _ _ _ c.set_on-disk.ensures.crash c.give-given.ensures.crash.crash (c.give-given.ensures.here (c.take.ensures.tells ∙ tells)) c.end_of.ensures either

@@ -1,5 +1,6 @@
-use Rattle.std.proofs.Common.{ℕ, List, sym, ◌∙◌, ap, true}
+use Rattle.std.proofs.Common.{ℕ, List, refl, sym, ◌∙◌, ap, true}
 use Rattle.tk_proc.specs.Replies.{set_reply}
+use Rattle.tk_util.proofs.Crashing.{crash_with}
 use Rattle.tk_util.proofs.Ready.{set_fits, set_success}
 use Rattle.tk_util.proofs.Replies.{called_done}
 use Rattle.tk_util.proofs.set.set_more.Goals as goal
@@ -9,3 +10,6 @@ returns-clause-call g c =
     called_done _ _ (set_reply c.args.value.now true) _ _ (λ was. ap (λ (v : List ℕ). (set_reply v true was).action) (c.new-setter.ensures ∙ c.in-Ok.ensures)) (set_fits c.args.value.now c.requires.value) _ _ _ _ _ _ _
     c.run_call-disk.ensures.made c.run_call-disk.ensures.no_room c.run_call-disk.ensures.refused c.run_call-disk.ensures.no_memory
     (λ was new. c.status.ensures was ∙ set_success _ was ∙ sym (set_success _ was)) c.with_status-answer.ensures
+
+pub returns-clause-crash : goal.returns-clause-crash
+returns-clause-crash g c = crash_with _ _ _ _ _ _ (c.run_call-disk.ensures.crash refl) c.with_status-answer.ensures

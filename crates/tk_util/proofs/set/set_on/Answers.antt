@@ -1,3 +1,4 @@
+use Rattle.tk_util.proofs.Crashing.{crash_behind}
 use Rattle.tk_util.proofs.SetEndings.{moved}
 use Rattle.tk_util.proofs.Sparing.{spares_left, spares_moved}
 use Rattle.tk_util.proofs.set.set_on.Goals as goal
@@ -16,3 +17,6 @@ returns-in-Err-Fault-clause-spared g c = spares_left _ _ _ c.set_fresh.ensures.l
 
 pub returns-in-Err-NoMemory-clause-spared : goal.returns-in-Err-NoMemory-clause-spared
 returns-in-Err-NoMemory-clause-spared g c = spares_left _ _ _ c.set_fresh.ensures.left
+
+pub returns-in-Ok-false-clause-crash : goal.returns-in-Ok-false-clause-crash
+returns-in-Ok-false-clause-crash g c = crash_behind _ _ _ _ _ (λ place is. c.in-Ok-false.ensures.unwritten c.in-Ok-false.field-0-test) c.set_more.ensures.crash
