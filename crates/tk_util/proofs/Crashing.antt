@@ -29,7 +29,7 @@ crash_behind (Err stops.Full) left mid leaves after first done = done
 crash_behind (Err stops.Fault) left mid leaves after first done = tt
 crash_behind (Err stops.NoMemory) left mid leaves after first done = tt
 
-pub crash_fault : (stop : Stop) (left leaves : List ℕ → Type 0) (after : Option (List ℕ)) → stop ≡ stops.Fault → CrashDone (Err stop) left leaves after
+crash_fault : (stop : Stop) (left leaves : List ℕ → Type 0) (after : Option (List ℕ)) → stop ≡ stops.Fault → CrashDone (Err stop) left leaves after
 crash_fault stop left leaves after is = subst (λ (x : Stop). CrashDone (Err x) left leaves after) (sym is) tt
 
 -- a file that was not opened

@@ -8,7 +8,7 @@ use Rattle.tk_status.specs.declared.Status.{Status}
 use Rattle.tk_status.specs.declared.finish.Finish.{Finish}
 use Rattle.tk_status.specs.Finish.{ended, refused_at, answered, ended_by}
 use Rattle.tk_status.specs.Statuses.{number_of}
-use Rattle.tk_proc.specs.Replies.{Reply, get_reply}
+use Rattle.tk_proc.specs.Replies.{Reply}
 use Rattle.tk_util.specs.declared.call.Stop.{Stop}
 use Rattle.tk_util.specs.declared.call.Stop.TheVariants as stops
 use Rattle.tk_model.specs.declared.error.OpenError.TheVariants.{NotADatabase}
@@ -163,18 +163,6 @@ pub found_call : (key : List ℕ) (reply : Option (List ℕ) → Reply) (f : Lis
     → o0 ≡ Some f → IfSome o0 (λ f. IfOk answer (λ s. IsMade false reply key f o1 value)) → finish ≡ call_end answer given → finish.status ≡ 0 → (h : Holds false f) × (value ≡ value_in h.groups key)
 found_call key reply f o0 o1 value answer given finish taken made is e =
     found_in key reply f o1 value answer given finish (told_call o0 f (λ f. IfOk answer (λ s. IsMade false reply key f o1 value)) taken made) is e
-
--- a status of success comes of a value
-pub value_there : (value : Option (List ℕ)) (answer : Result Status Stop) (given : Result (Unit {0}) DiskError) (finish : Finish) → IfOk answer (λ s. s ≡ (get_reply value).status) → finish ≡ call_end answer given → finish.status ≡ 0 → IsSome value
-value_there (Some v) answer given finish is ends e = refl
-value_there None (Ok s) (Ok g) finish is ends e = absurd (not_status finish (answered 7) 0 (ends ∙ ap ended_by is) (λ h. cc h) e)
-value_there None (Ok s) (Err x) finish is ends e = absurd (not_status finish (ended 4) 0 ends (λ h. cc h) e)
-value_there None (Err (stops.Refused place)) given finish is ends e = absurd (not_status finish (refused_at 0 place) 0 ends (λ h. cc h) e)
-value_there None (Err stops.Full) (Ok g) finish is ends e = absurd (not_status finish (answered 21) 0 ends (λ h. cc h) e)
-value_there None (Err stops.Full) (Err x) finish is ends e = absurd (not_status finish (ended 4) 0 ends (λ h. cc h) e)
-value_there None (Err stops.Fault) given finish is ends e = absurd (not_status finish (ended 4) 0 ends (λ h. cc h) e)
-value_there None (Err stops.NoMemory) (Ok g) finish is ends e = absurd (not_status finish (ended 5) 0 ends (λ h. cc h) e)
-value_there None (Err stops.NoMemory) (Err x) finish is ends e = absurd (not_status finish (ended 4) 0 ends (λ h. cc h) e)
 
 clear_answer : (b : Bool) (n : ℕ) → IsClear (if b then ended 0 else answered n).status
 clear_answer true n = inl refl

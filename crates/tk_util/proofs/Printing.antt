@@ -1,6 +1,6 @@
 -- A value and then the end of a line go out.
 use Rattle.std.proofs.Common.{◌≡◌, ℕ, zero, suc, ◌+◌, List, [], ◌∷◌, ◌++◌, length, take, refl, sym, ◌∙◌, ap, subst, append_assoc}
-use Rattle.std.specs.Prelude.{Option, Some, None, Result, Ok, Err, OnOk, OnErr, IsErrOf}
+use Rattle.std.specs.Prelude.{Option, Some, None, Result, Ok, Err, OnErr, IsErrOf}
 use Rattle.std.specs.Io.KnownBytes.{Appends, Keeps}
 use Rattle.std.proofs.lemmas.List.{append-nil}
 use Rattle.std.proofs.Math.Seq.{take-append-add}
@@ -30,16 +30,6 @@ front_behind (Some xs) None new bs rest out front = absurd out
 front_behind (Some xs) (Some ys) None bs rest out front = absurd front.1
 front_behind (Some xs) (Some ys) (Some zs) bs rest out front =
     (length bs + front.0, front.1 ∙ ap (λ (l : List ℕ). l ++ take front.0 rest) out ∙ append_assoc xs bs (take front.0 rest) ∙ ap (λ (l : List ℕ). xs ++ l) (sym (take-append-add bs rest front.0)))
-
-pub line_out : (old mid new : Option (List ℕ)) (bs rest : List ℕ) → Appends old mid bs → Appends mid new rest → Appends old new (bs ++ rest)
-line_out None mid new bs rest out more = tt
-line_out (Some xs) None new bs rest out more = absurd out
-line_out (Some xs) (Some ys) None bs rest out more = absurd more
-line_out (Some xs) (Some ys) (Some zs) bs rest out more = more ∙ ap (λ (l : List ℕ). l ++ rest) out ∙ append_assoc xs bs rest
-
-pub ok_out : (r : Result (Unit {0}) IoError) (old mid new : Option (List ℕ)) (bs rest : List ℕ) → Appends old mid bs → OnOk r (Appends mid new rest) → OnOk r (Appends old new (bs ++ rest))
-ok_out (Ok v) old mid new bs rest out more = line_out old mid new bs rest out more
-ok_out (Err e) old mid new bs rest out more = tt
 
 -- what a failed write left
 failed_front : (r : Result (Unit {0}) IoError) (old new : Option (List ℕ)) (bs : List ℕ) → (IsErrOf r Fault → AppendsFront old new bs) → (IsErrOf r NoMemory → Keeps old new) → OnErr r (AppendsFront old new bs)

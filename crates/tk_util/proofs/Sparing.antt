@@ -139,12 +139,7 @@ module _ {D : Type 0} (image : D → Option (List ℕ)) (may_leave : D → List 
         let torn = only.each c (counts new (moment old) c only.later leaves) in
         torn_kept holds.head holds.groups torn.0 c 32 32 (before torn.0 torn.1) torn.2 (inl (omega arith, omega arith))
 
--- what leaves nothing that it didn't before spares each file
-pub spares_within : (o : Option (List ℕ)) (left leaves : List ℕ → Type 0) → Within left leaves → IfSome o (λ f. Spares f left leaves)
-spares_within None left leaves within = tt
-spares_within (Some f) left leaves within = λ holds before c l. before c (within c l)
-
--- so does what leaves each file of bytes
+-- what leaves nothing that it didn't before of a file of bytes spares it
 pub spares_left : (o : Option (List ℕ)) (left leaves : List ℕ → Type 0) → IfSome o (λ f. f ≢ [] → Within left leaves) → IfSome o (λ f. Spares f left leaves)
 spares_left None left leaves within = tt
 spares_left (Some f) left leaves within = λ holds before c l. before c (within (has_header f holds) c l)

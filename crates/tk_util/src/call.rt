@@ -79,6 +79,7 @@ fn end_call<D: Disk>(store: &mut HashStore<D>, next: u64) -> Result<(), Stop>
 }
 
 /// Makes a call under the store's next number, and closes the store unless it failed.
+#[tactic(auto, using(crate::proofs::Crashing::still_twice))]
 fn call_on<D: Disk, P: RecordProcessor>(
     alloc: Global,
     store: &mut HashStore<D>,

@@ -1,12 +1,10 @@
-use Rattle.std.proofs.Common.{[], ◌∙◌, ap}
+use Rattle.std.proofs.Common.{[]}
 use Rattle.std.proofs.lemmas.Option.{IfSome_then}
 use Rattle.tk_status.specs.declared.Status.{Status}
 use Rattle.tk_hash.specs.Hash.{opening, hash_disk}
 use Rattle.tk_util.proofs.CallSteps.{made_on, kept_on, no_room_on, said_of, full_tells, memory_tells, one_more}
 use Rattle.tk_model.specs.Entries.{group_of}
 use Rattle.tk_store.specs.OneRecord.{call_changes}
-use Rattle.tk_store.specs.Store.{Nature}
-use Rattle.tk_util.proofs.Crashing.{still_twice}
 use Rattle.tk_util.proofs.Sparing.{safe_made, safe_refused, safe_failed}
 use Rattle.tk_util.proofs.call.call_on.Goals as goal
 
@@ -63,27 +61,3 @@ pub returns-in-Err-Fault-clause-safe : goal.returns-in-Err-Fault-clause-safe
 returns-in-Err-Fault-clause-safe g c = λ groups stands.
     safe_failed g.D.Disk.image g.D.Disk.may_leave g.D.Disk.moment g.D.Disk.left_since g.met.D.Disk.only_now c.args.store.now groups stands c.run_on.new.store
     (λ m. group_of c.next_number-next.result (call_changes g.P.RecordProcessor.acts c.args.p.now c.args.key.now m)) c.run_on.ensures.safe
-
-pub returns-in_ok-end_call-in-Ok-clause-reads : goal.returns-in_ok-end_call-in-Ok-clause-reads
-returns-in_ok-end_call-in-Ok-clause-reads g c = λ reads.
-    still_twice g.D.Disk.image g.D.Disk.may_leave g.D.Disk.moment g.D.Disk.left_since c.args.store.now c.run_on.new.store c.end_call.new.store (c.run_on.ensures.reads reads) (c.end_call.ensures.reads (ap (λ (n : Nature). n.writable) c.run_on.ensures.nature ∙ reads))
-
-pub returns-in_ok-end_call-in-Err-Full-clause-reads : goal.returns-in_ok-end_call-in-Err-Full-clause-reads
-returns-in_ok-end_call-in-Err-Full-clause-reads g c = λ reads.
-    still_twice g.D.Disk.image g.D.Disk.may_leave g.D.Disk.moment g.D.Disk.left_since c.args.store.now c.run_on.new.store c.end_call-in-Err-Full.new.store (c.run_on.ensures.reads reads) (c.end_call-in-Err-Full.ensures.reads (ap (λ (n : Nature). n.writable) c.run_on.ensures.nature ∙ reads))
-
-pub returns-in_ok-end_call-in-Err-NoMemory-clause-reads : goal.returns-in_ok-end_call-in-Err-NoMemory-clause-reads
-returns-in_ok-end_call-in-Err-NoMemory-clause-reads g c = λ reads.
-    still_twice g.D.Disk.image g.D.Disk.may_leave g.D.Disk.moment g.D.Disk.left_since c.args.store.now c.run_on.new.store c.end_call-in-Err-NoMemory.new.store (c.run_on.ensures.reads reads) (c.end_call-in-Err-NoMemory.ensures.reads (ap (λ (n : Nature). n.writable) c.run_on.ensures.nature ∙ reads))
-
-pub returns-in_err-end_call-in-Ok-clause-reads : goal.returns-in_err-end_call-in-Ok-clause-reads
-returns-in_err-end_call-in-Ok-clause-reads g c = λ reads.
-    still_twice g.D.Disk.image g.D.Disk.may_leave g.D.Disk.moment g.D.Disk.left_since c.args.store.now c.run_on.new.store c.end_call.new.store (c.run_on.ensures.reads reads) (c.end_call.ensures.reads (ap (λ (n : Nature). n.writable) c.run_on.ensures.nature ∙ reads))
-
-pub returns-in_err-end_call-in-Err-Full-clause-reads : goal.returns-in_err-end_call-in-Err-Full-clause-reads
-returns-in_err-end_call-in-Err-Full-clause-reads g c = λ reads.
-    still_twice g.D.Disk.image g.D.Disk.may_leave g.D.Disk.moment g.D.Disk.left_since c.args.store.now c.run_on.new.store c.end_call-in-Err-Full.new.store (c.run_on.ensures.reads reads) (c.end_call-in-Err-Full.ensures.reads (ap (λ (n : Nature). n.writable) c.run_on.ensures.nature ∙ reads))
-
-pub returns-in_err-end_call-in-Err-NoMemory-clause-reads : goal.returns-in_err-end_call-in-Err-NoMemory-clause-reads
-returns-in_err-end_call-in-Err-NoMemory-clause-reads g c = λ reads.
-    still_twice g.D.Disk.image g.D.Disk.may_leave g.D.Disk.moment g.D.Disk.left_since c.args.store.now c.run_on.new.store c.end_call-in-Err-NoMemory.new.store (c.run_on.ensures.reads reads) (c.end_call-in-Err-NoMemory.ensures.reads (ap (λ (n : Nature). n.writable) c.run_on.ensures.nature ∙ reads))
