@@ -2,6 +2,8 @@
 #![tactic(auto)]
 
 ghost use Rattle.std.specs.Prelude.{◌≡◌, ◌≢◌, IfOk};
+ghost use Rattle.std.specs.IoError.{error_kind};
+ghost use Rattle.std.specs.declared.io.ErrorKind.TheVariants.{OutOfMemory};
 ghost use Rattle.tk_status.specs.Finish.{ended};
 ghost use Rattle.tk_disk.specs.Folder.{NoneOut};
 ghost use Rattle.tk_disk.specs.DirFolder.{dir_is_out};
