@@ -10,6 +10,7 @@ mod order;
 mod place;
 mod plain;
 mod record;
+mod reserved;
 
 pub use bytes::Bytes;
 pub use error::{NoMemory, OpenError, Unopened};
@@ -22,6 +23,7 @@ pub use record::{
     Action, Bound, BytesList, Change, ChangeList, Entry, EntryList, FaultList, Group, GroupList,
     Order, Pair, PairList, ShardOf, Touch, TouchList, Way,
 };
+pub use reserved::{ReservedBytes, ReservedList};
 
 #[cfg(test)]
 mod tests;

@@ -1,5 +1,5 @@
 //! Where keys stand in a list of records.
-ghost use Rattle.std.specs.Prelude.{◌≡◌, ◌↔◌, IsTrue, OnOk, OnErr, IfSome, MatchOption, MatchResult};
+ghost use Rattle.std.specs.Prelude.{◌≡◌, ◌↔◌, IsTrue, IfOk, OnOk, OnErr, IfSome, MatchOption, MatchResult};
 ghost use Rattle.std.specs.Option.{option_copied};
 ghost use Rattle.tk_model.specs.Places.{StandsAt, StandsNowhere, GoesAt, GoesBefore};
 ghost use Rattle.tk_model.specs.Records.{find, put, without, reaches, first_within, last_within, named};
@@ -40,6 +40,15 @@ pub fn value_at<'a>(pairs: &'a [Pair], key: &[u8]) -> Option<&'a Bytes>
         Some(i) => Some(&pairs[i].value),
         None => None,
     }
+}
+
+/// A copy of a record.
+pub fn copy_pair(pair: &Pair) -> Result<Pair, NoMemory>
+    ensures { IfOk result (λ copy. copy ≡ pair.now) }
+{
+    let key = pair.key.clone()?;
+    let value = pair.value.clone()?;
+    Ok(Pair { key, value })
 }
 
 pub fn put_in(pairs: &mut PairList, order: &Order, new: Pair) -> Result<(), NoMemory>
