@@ -1,6 +1,7 @@
 ghost use Rattle.std.specs.Prelude.{◌≡◌, ◌+◌, ◌++◌, ◌≤◌, ◌<◌, ◌↔◌, [], min, length, take, drop, IfOk, OnOk, OnErr, IsErrOf, Contains, Some};
 ghost use Rattle.std.specs.Io.KnownBytes.{Appends, Consumes, IsAtEnd, Keeps};
-ghost use Rattle.tk_io.specs.Streams.{AppendsFront, HasCause, capped};
+ghost use Rattle.tk_io.specs.Streams.{AppendsFront, HasCause};
+ghost use Rattle.tk_model.specs.Counts.{capped};
 
 use crate::schedule::Schedule;
 use crate::{IoError, Sink, Source};

@@ -1,5 +1,6 @@
 ghost use Rattle.std.specs.Prelude.{◌≡◌, ◌+◌, ◌↔◌, IsErr, OnErr, IsErrOf, Contains};
-ghost use Rattle.tk_io.specs.Streams.{HasCause, capped};
+ghost use Rattle.tk_io.specs.Streams.{HasCause};
+ghost use Rattle.tk_model.specs.Counts.{capped};
 
 use crate::IoError;
 use tk_model::FaultList;

@@ -8,3 +8,4 @@ pub mod Places
 pub mod OrderedRecords
 pub mod RecordLaws
 pub mod Room
+pub mod RecordText

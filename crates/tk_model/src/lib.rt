@@ -11,6 +11,7 @@ mod place;
 mod plain;
 mod record;
 mod reserved;
+mod text;
 
 pub use bytes::Bytes;
 pub use error::{NoMemory, OpenError, Unopened};
@@ -23,7 +24,12 @@ pub use record::{
     Action, Bound, BytesList, Change, ChangeList, Entry, EntryList, FaultList, Group, GroupList,
     Order, Pair, PairList, ShardOf, Touch, TouchList, Way,
 };
+pub use place::{
+    copy_pair, drop_in, first_pair, is_within, last_pair, named_pair, place_of, place_to_put, put_in,
+    value_at,
+};
 pub use reserved::{ReservedBytes, ReservedList};
+pub use text::{RecordHere, record_here, write_record};
 
 #[cfg(test)]
 mod tests;

@@ -8,7 +8,8 @@ use crate::order::is_same;
 use crate::{Bound, Bytes, NoMemory, Order, Pair, PairList, Way, compare_keys};
 use std::cmp::Ordering;
 
-fn place_of(pairs: &[Pair], key: &[u8]) -> Option<usize>
+/// The place of a key's record.
+pub fn place_of(pairs: &[Pair], key: &[u8]) -> Option<usize>
     ensures { MatchOption result (StandsNowhere key.now pairs.now) (StandsAt key.now pairs.now) }
 {
     for i in 0..pairs.len() {
@@ -20,7 +21,7 @@ fn place_of(pairs: &[Pair], key: &[u8]) -> Option<usize>
 }
 
 /// The place of a key's record, or else the place where it belongs.
-fn place_to_put(pairs: &[Pair], order: &Order, key: &[u8]) -> Result<usize, usize>
+pub fn place_to_put(pairs: &[Pair], order: &Order, key: &[u8]) -> Result<usize, usize>
     ensures { MatchResult result (GoesAt order.now key.now pairs.now) (GoesBefore order.now key.now pairs.now) }
 {
     for i in 0..pairs.len() {
@@ -72,7 +73,8 @@ pub fn drop_in(pairs: &mut PairList, key: &[u8])
     }
 }
 
-fn is_within(order: &Order, way: Way, bound: &Bound, key: &[u8]) -> bool
+/// The key is within the bound, in the way's direction.
+pub fn is_within(order: &Order, way: Way, bound: &Bound, key: &[u8]) -> bool
     ensures { result ≡ reaches order.now way bound.now key.now }
 {
     match bound {
@@ -94,7 +96,7 @@ fn is_within(order: &Order, way: Way, bound: &Bound, key: &[u8]) -> bool
     }
 }
 
-fn first_pair<'a>(pairs: &'a [Pair], order: &Order, bound: &Bound) -> Option<&'a Pair>
+pub fn first_pair<'a>(pairs: &'a [Pair], order: &Order, bound: &Bound) -> Option<&'a Pair>
     ensures { option_copied result ≡ first_within order.now bound.now pairs.now }
 {
     for i in 0..pairs.len() {
@@ -106,7 +108,7 @@ fn first_pair<'a>(pairs: &'a [Pair], order: &Order, bound: &Bound) -> Option<&'a
     None
 }
 
-fn last_pair<'a>(pairs: &'a [Pair], order: &Order, bound: &Bound) -> Option<&'a Pair>
+pub fn last_pair<'a>(pairs: &'a [Pair], order: &Order, bound: &Bound) -> Option<&'a Pair>
     ensures { option_copied result ≡ last_within order.now bound.now pairs.now }
 {
     for i in (0..pairs.len()).rev() {
