@@ -8,4 +8,5 @@ pub mod Places
 pub mod OrderedRecords
 pub mod RecordLaws
 pub mod Room
+pub mod Schedule
 pub mod RecordText

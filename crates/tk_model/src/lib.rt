@@ -11,6 +11,7 @@ mod place;
 mod plain;
 mod record;
 mod reserved;
+mod schedule;
 mod text;
 
 pub use bytes::Bytes;
@@ -29,6 +30,7 @@ pub use place::{
     value_at,
 };
 pub use reserved::{ReservedBytes, ReservedList};
+pub use schedule::FaultSchedule;
 pub use text::{RecordHere, record_here, write_record};
 
 #[cfg(test)]
