@@ -203,7 +203,10 @@ fn a_record_and_its_text(rt: HostRuntime) -> Result<(), Fail> {
     let mut out = Bytes::from_slice(rt.alloc(), b">")?;
     write_record(b"k", b"val", &mut out)?;
     out.extend(b"<")?;
-    assert_eq!(rt; out.as_slice(), b">\x00\x01\x00\x00\x00\x03kval<".as_slice());
+    assert_eq!(rt;
+        out.as_slice(),
+        b">\x00\x01\x00\x00\x00\x03kval<".as_slice()
+    );
     let here = record_here(&out.as_slice()[1..]).ok_or("refused")?;
     assert_eq!(rt; here.key, b"k".as_slice());
     assert_eq!(rt; here.value, b"val".as_slice());
