@@ -6,9 +6,10 @@ use Rattle.tk_disk.specs.Crash.{Torn, Shortened, Follows, Within, Only, Elapses}
 use Rattle.tk_disk.specs.Disk.{put_at}
 use Rattle.tk_disk.specs.declared.tape.Step.{Step}
 use Rattle.tk_disk.specs.declared.tape.Step.TheVariants.{Write, Cut, Sync}
-use Rattle.tk_disk.specs.Memory.{TapeView, state_after, state_now, MayLeave, LeftSince, Grows}
+use Rattle.tk_disk.specs.Memory.{TapeView, state_after, state_now, MayLeave, LeftSince, LeftWith, AtSome, TapeElapses, tape_past, Grows}
 use Rattle.tk_disk.specs.TapeInside.{Tells}
-use Rattle.tk_disk.specs.Replay.{State, replay, settled, written, shortened, spent, IsLeft, IsSound}
+use Rattle.tk_disk.specs.Replay.{State, replay, settled, written, shortened, spent, IsLeft, IsLeftWith, IsSound}
+use Rattle.tk_disk.specs.Past.{with_write, with_cut, settled_on}
 use Rattle.tk_disk.proofs.Still.{still}
 use Rattle.tk_disk.proofs.States.{write_follows, cut_follows, settled-only, settled-sound, written-sound, shortened-sound, put_at-outside, length-put_at, take-torn}
 use Rattle.tk_disk.proofs.Redoing.{within-more}
@@ -28,6 +29,10 @@ pub begun_only : (v : TapeView) (bytes : List ℕ) → v.first ≡ bytes → v.s
 unfolding state_now settled
 begun_only v bytes first none c left =
     elim (subst (λ (l : List Step). IsLeft (replay l v.store (settled v.first)) c) none left) [ inl now ↦ now ∙ first | inr image ↦ settled-only v.first c image ∙ first ]
+
+pub begun_past : (v : TapeView) (bytes : List ℕ) → v.first ≡ bytes → v.steps ≡ [] → tape_past v ≡ settled_on bytes
+unfolding state_now settled
+begun_past v bytes first none = ap (λ (l : List Step). (replay l v.store (settled v.first)).past) none ∙ ap settled_on first
 
 module _ (v w : TapeView) (step : Step) (bytes : List ℕ) (grows : Grows v w step bytes) (all_stored : spent v.steps ≡ length v.store) where
   earlier : (k : ℕ) → k ≤ length v.steps → state_after w k ≡ replay (take k v.steps) v.store (settled v.first)
@@ -53,21 +58,24 @@ module _ (v w : TapeView) (step : Step) (bytes : List ℕ) (grows : Grows v w st
   length-steps : length w.steps ≡ length v.steps + 1
   length-steps = ap length grows.steps ∙ length-append v.steps (step ∷ [])
 
-  pub elapses : Elapses (length v.steps) (length w.steps) (LeftSince v) (LeftSince w) (MayLeave w)
-  elapses = record {
+  elapses_as : {I : Type 0} (P : State → I → Type 0) → Elapses (length v.steps) (length w.steps) (AtSome P v) (AtSome P w) (P (state_now w))
+  elapses_as P = record {
     later = omega (arith, length-steps);
-    nothing_else = λ t c le since. elim since [
+    nothing_else = λ t x le since. elim since [
       | inl past ↦ elim (cases_lt past.0 (length v.steps)) [
-        | inl before ↦ inl (inl (past.0, past.1, before, subst (λ (s : State). IsLeft s c) (same_after past.0 (omega arith)) past.3))
-        | inr last ↦ inl (inr (subst (λ (s : State). IsLeft s c) (ap (λ (k : ℕ). state_after w k) (omega (arith, last, past.2, length-steps)) ∙ last_after) past.3))
+        | inl before ↦ inl (inl (past.0, past.1, before, subst (λ (s : State). P s x) (same_after past.0 (omega arith)) past.3))
+        | inr last ↦ inl (inr (subst (λ (s : State). P s x) (ap (λ (k : ℕ). state_after w k) (omega (arith, last, past.2, length-steps)) ∙ last_after) past.3))
       ]
       | inr now ↦ inr now
     ];
-    keeps = λ t c le since. elim since [
-      | inl past ↦ inl (past.0, past.1, omega (arith, past.2, length-steps), subst (λ (s : State). IsLeft s c) (sym (same_after past.0 (omega (arith, past.2)))) past.3)
-      | inr now ↦ inl (length v.steps, le, omega (arith, length-steps), subst (λ (s : State). IsLeft s c) (sym last_after) now)
+    keeps = λ t x le since. elim since [
+      | inl past ↦ inl (past.0, past.1, omega (arith, past.2, length-steps), subst (λ (s : State). P s x) (sym (same_after past.0 (omega (arith, past.2)))) past.3)
+      | inr now ↦ inl (length v.steps, le, omega (arith, length-steps), subst (λ (s : State). P s x) (sym last_after) now)
     ];
   }
+
+  pub elapses : TapeElapses v w
+  elapses = record { time = elapses_as IsLeft; pasts = elapses_as IsLeftWith }
 
 -- a write
 module _ (v w : TapeView) (at : ℕ) (bytes : List ℕ) (grows : Grows v w (Write at (length bytes)) bytes) (all_stored : spent v.steps ≡ length v.store) where
@@ -133,10 +141,22 @@ module _ (v w : TapeView) (grows : Grows v w Sync []) where
   pub sync_crash : Within (MayLeave v) (MayLeave w)
   sync_crash c left = inl (sync_only c left)
 
--- the bytes after a step
+-- the bytes and the past after a step
 pub now-written : (at : ℕ) (bytes : List ℕ) (s : State) → (written at bytes s).now ≡ put_at at bytes s.now
 unfolding written
 now-written at bytes s = refl
+
+pub past-written : (at : ℕ) (bytes : List ℕ) (s : State) → (written at bytes s).past ≡ with_write at bytes s.past
+unfolding written
+past-written at bytes s = refl
+
+pub past-shortened : (n : ℕ) (s : State) → (shortened n s).past ≡ with_cut n s.past
+unfolding shortened
+past-shortened n s = refl
+
+pub past-settled : (file : List ℕ) → (settled file).past ≡ settled_on file
+unfolding settled
+past-settled file = refl
 
 pub now-shortened : (n : ℕ) (s : State) → (shortened n s).now ≡ take n s.now
 unfolding shortened
@@ -204,6 +224,10 @@ pub passes-crash : (v : TapeView) (n : ℕ) → Within (MayLeave v) (MayLeave (l
 unfolding state_now less_room
 passes-crash v n c left = left
 
-pub passes-time : (v : TapeView) (n : ℕ) → Elapses (length v.steps) (length (less_room v n).steps) (LeftSince v) (LeftSince (less_room v n)) (MayLeave (less_room v n))
+pub passes-time : (v : TapeView) (n : ℕ) → TapeElapses v (less_room v n)
 unfolding state_now state_after less_room
-passes-time v n = still (length v.steps) (LeftSince v) (MayLeave v)
+passes-time v n = record { time = still (length v.steps) (LeftSince v) (MayLeave v); pasts = still (length v.steps) (LeftWith v) (IsLeftWith (state_now v)) }
+
+pub passes-past : (v : TapeView) (n : ℕ) → tape_past (less_room v n) ≡ tape_past v
+unfolding state_now less_room
+passes-past v n = refl

@@ -1,7 +1,8 @@
 ghost use Rattle.std.specs.Prelude.{◌≡◌, ◌+◌, ◌-◌, ◌++◌, [], ◌∷◌, ◌≤◌, ◌<◌, ◌^◌, length, take, IfOk, vec_len, vec_capacity};
 ghost use Rattle.tk_disk.specs.Disk.{put_at};
-ghost use Rattle.tk_disk.specs.Crash.{Torn, Shortened, Follows, Within, Only, Elapses};
-ghost use Rattle.tk_disk.specs.Memory.{tape_bytes, MayLeave, LeftSince, Grows, Stays};
+ghost use Rattle.tk_disk.specs.Crash.{Torn, Shortened, Follows, Within, Only};
+ghost use Rattle.tk_disk.specs.Memory.{tape_bytes, tape_past, MayLeave, TapeElapses, Grows, Stays};
+ghost use Rattle.tk_disk.specs.Past.{with_write, with_cut, settled_on};
 ghost use Rattle.tk_disk.specs.Redone.{redone, EndsWithLastSync, IsKeptImage};
 ghost use Rattle.tk_disk.specs.Replay.{spent, AreWithin};
 
@@ -134,6 +135,7 @@ impl Tape {
     pub fn new(alloc: Global, bytes: Vec<u8>, room: u64) -> Result<Tape, NoMemory>
         ensures bytes { IfOk result (λ t. tape_bytes t ≡ bytes.items) }
         ensures crash { IfOk result (λ t. Only bytes.items (MayLeave t)) }
+        ensures past { IfOk result (λ t. tape_past t ≡ settled_on bytes.items) }
         ensures steps { IfOk result (λ t. t.steps ≡ []) }
         ensures room { IfOk result (λ t. t.room ≡ room) }
     {
@@ -170,7 +172,8 @@ impl Tape {
         ensures bytes { tape_bytes self.new ≡ put_at at bytes.now (tape_bytes self.old) }
         ensures room { self.new.room ≡ self.old.room - (64 + length bytes.now) }
         ensures crash { Follows (Torn at (length bytes.now)) (MayLeave self.old) (MayLeave self.new) }
-        ensures time { Elapses (length self.old.steps) (length self.new.steps) (LeftSince self.old) (LeftSince self.new) (MayLeave self.new) }
+        ensures time { TapeElapses self.old self.new }
+        ensures past { tape_past self.new ≡ with_write at bytes.now (tape_past self.old) }
         ensures record { Grows self.old self.new (Step.Write at (length bytes.now)) bytes.now }
     {
         let step = Step::Write(at, bytes.len() as u64);
@@ -185,7 +188,8 @@ impl Tape {
         ensures bytes { tape_bytes self.new ≡ take len (tape_bytes self.old) }
         ensures room { self.new.room ≡ self.old.room - 64 }
         ensures crash { Follows (Shortened len) (MayLeave self.old) (MayLeave self.new) }
-        ensures time { Elapses (length self.old.steps) (length self.new.steps) (LeftSince self.old) (LeftSince self.new) (MayLeave self.new) }
+        ensures time { TapeElapses self.old self.new }
+        ensures past { tape_past self.new ≡ with_cut len (tape_past self.old) }
         ensures record { Grows self.old self.new (Step.Cut len) [] }
     {
         self.bytes.truncate(len as usize);
@@ -200,7 +204,8 @@ impl Tape {
         ensures room { self.new.room ≡ self.old.room - 64 }
         ensures durable { Only (tape_bytes self.old) (MayLeave self.new) }
         ensures crash { Within (MayLeave self.old) (MayLeave self.new) }
-        ensures time { Elapses (length self.old.steps) (length self.new.steps) (LeftSince self.old) (LeftSince self.new) (MayLeave self.new) }
+        ensures time { TapeElapses self.old self.new }
+        ensures past { tape_past self.new ≡ settled_on (tape_bytes self.old) }
         ensures record { Grows self.old self.new Step.Sync [] }
     {
         note(&mut self.steps, &mut self.store, Step::Sync, &[]);
@@ -213,7 +218,8 @@ impl Tape {
         ensures bytes { tape_bytes self.new ≡ tape_bytes self.old }
         ensures room { self.new.room ≡ self.old.room - 64 }
         ensures crash { Within (MayLeave self.old) (MayLeave self.new) }
-        ensures time { Elapses (length self.old.steps) (length self.new.steps) (LeftSince self.old) (LeftSince self.new) (MayLeave self.new) }
+        ensures time { TapeElapses self.old self.new }
+        ensures past { tape_past self.new ≡ tape_past self.old }
         ensures record { Stays self.old self.new }
     {
         self.room -= 64;
