@@ -1,8 +1,10 @@
 -- A disk in memory, as contracts see it: what it began with, and each step that changed it.
 use Rattle.std.specs.Prelude.{◌≡◌, ◌⊎◌, ℕ, ◌<◌, ◌≤◌, List, [], ◌∷◌, ◌++◌, length, take}
 use Rattle.tk_disk.specs.declared.tape.Step.{Step}
-use Rattle.tk_disk.specs.Crash.{Elapses}
-use Rattle.tk_disk.specs.Past.{Past}
+use Rattle.tk_disk.specs.declared.tape.Step.TheVariants.{Write, Cut, Sync}
+use Rattle.tk_disk.specs.Crash.{Torn, Shortened, Follows, Within, Only, Elapses}
+use Rattle.tk_disk.specs.Disk.{put_at}
+use Rattle.tk_disk.specs.Past.{Past, with_write, with_cut, settled_on}
 use Rattle.tk_disk.specs.Replay.{State, replay, settled, IsLeft, IsLeftWith}
 
 pub record TapeView : Type 0 where
@@ -57,3 +59,36 @@ LeftWith v t x = AtSome IsLeftWith v t x
 pub record TapeElapses (v w : TapeView) : Type 0 where
   pub time : Elapses (length v.steps) (length w.steps) (LeftSince v) (LeftSince w) (MayLeave w)
   pub pasts : Elapses (length v.steps) (length w.steps) (LeftWith v) (LeftWith w) (λ x. (x.0 ≡ tape_past w) × MayLeave w x.1)
+
+-- a write of these bytes at this place
+pub record TapeWrites (at : ℕ) (new : List ℕ) (v w : TapeView) : Type 0 where
+  pub bytes : tape_bytes w ≡ put_at at new (tape_bytes v)
+  pub past : tape_past w ≡ with_write at new (tape_past v)
+  pub crash : Follows (Torn at (length new)) (MayLeave v) (MayLeave w)
+  pub time : TapeElapses v w
+  pub grows : Grows v w (Write at (length new)) new
+
+-- a cut to this length
+pub record TapeCuts (n : ℕ) (v w : TapeView) : Type 0 where
+  pub bytes : tape_bytes w ≡ take n (tape_bytes v)
+  pub past : tape_past w ≡ with_cut n (tape_past v)
+  pub crash : Follows (Shortened n) (MayLeave v) (MayLeave w)
+  pub time : TapeElapses v w
+  pub grows : Grows v w (Cut n) []
+
+-- a hard sync
+pub record TapeSyncs (v w : TapeView) : Type 0 where
+  pub bytes : tape_bytes w ≡ tape_bytes v
+  pub past : tape_past w ≡ settled_on (tape_bytes v)
+  pub durable : Only (tape_bytes v) (MayLeave w)
+  pub crash : Within (MayLeave v) (MayLeave w)
+  pub time : TapeElapses v w
+  pub grows : Grows v w Sync []
+
+-- a soft sync
+pub record TapeRests (v w : TapeView) : Type 0 where
+  pub bytes : tape_bytes w ≡ tape_bytes v
+  pub past : tape_past w ≡ tape_past v
+  pub crash : Within (MayLeave v) (MayLeave w)
+  pub time : TapeElapses v w
+  pub stays : Stays v w
