@@ -6,7 +6,7 @@ ghost use Rattle.tk_disk.specs.Disk.{put_at, HasCause};
 ghost use Rattle.tk_block.specs.Number.{u64_in};
 ghost use Rattle.tk_block.specs.Text.{base_of};
 ghost use Rattle.tk_block.specs.declared.head.StaticHead.{StaticHead};
-ghost use Rattle.tk_buckets.specs.Chain.{IsChain, IsLinked, IsNext, head_cell, link_in, has_block, cell_to, without};
+ghost use Rattle.tk_buckets.specs.Chain.{IsChain, IsLinked, IsNext, AreApart, head_cell, link_in, has_block, cell_to, without};
 
 use crate::read::number_at;
 use tk_block::StaticHead;
@@ -86,6 +86,11 @@ pub fn unlink<D: Disk>(
         → OnOk result (D.image disk.new ≡ Some (put_at (cell_to (head_cell bucket) place places) (to_be_bytes w64 (link_in f place)) f))) }
     ensures chain { (places : List ℕ) → IfSome (D.image disk.old) (λ f. IsChain head.now f bucket places → has_block place places ≡ true
         → OnOk result (IfSome (D.image disk.new) (λ g. IsChain head.now g bucket (without place places)))) }
+    // a bucket of which no block has a byte in common with one of this bucket keeps its chain
+    ensures others { (other : ℕ) (places rest : List ℕ) → other < 2 ^ head.now.p → other ≢ bucket
+        → IfSome (D.image disk.old) (λ f. IsChain head.now f bucket places → has_block place places ≡ true
+        → IsChain head.now f other rest → AreApart f places rest
+        → OnOk result (IfSome (D.image disk.new) (λ g. IsChain head.now g other rest))) }
     ensures told { is_some (D.image disk.new) ≡ is_some (D.image disk.old) }
     ensures more { D.taken_count disk.old ≤ D.taken_count disk.new }
     ensures cause { HasCause (D.fault_count disk.old) (D.fault_count disk.new) result }

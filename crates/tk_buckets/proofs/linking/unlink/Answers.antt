@@ -5,7 +5,7 @@ use Rattle.std.proofs.lemmas.Option.{IfSome_then}
 use Rattle.tk_disk.specs.Crash.{Torn, Follows}
 use Rattle.tk_disk.specs.Disk.{put_at}
 use Rattle.tk_block.specs.Number.{u64_in}
-use Rattle.tk_buckets.proofs.Cuts.{found_in, cell_in, cut_in, cut_written, cut_leaves, nothing_torn, cell_torn}
+use Rattle.tk_buckets.proofs.Cuts.{found_in, cell_in, cut_in, cut_written, cut_leaves, cut_spares, nothing_torn, cell_torn}
 use Rattle.tk_disk.proofs.Moments.{time_joined, reads_joined}
 use Rattle.tk_buckets.proofs.Moments.{cell_only}
 use Rattle.tk_buckets.proofs.linking.unlink.Goals as goal
@@ -21,6 +21,12 @@ returns-in_default-clause-chain g c = λ places.
     IfSome_then (g.D.Disk.image c.args.disk.now)
     (found_in c.args.head.now (g.D.Disk.image c.args.disk.now) (g.D.Disk.image c.len.new.self) c.args.bucket c.args.place places c.in_ok-cell.field-0 c.requires.bucket c.len.ensures.image (c.in_ok-cell.ensures.found c.args.head.now places))
     (λ f known chain has. absurd (c.in_default.not-Some _ (known chain has)))
+
+pub returns-in_default-clause-others : goal.returns-in_default-clause-others
+returns-in_default-clause-others g c = λ other places rest within ne.
+    IfSome_then (g.D.Disk.image c.args.disk.now)
+    (found_in c.args.head.now (g.D.Disk.image c.args.disk.now) (g.D.Disk.image c.len.new.self) c.args.bucket c.args.place places c.in_ok-cell.field-0 c.requires.bucket c.len.ensures.image (c.in_ok-cell.ensures.found c.args.head.now places))
+    (λ f known chain has kept apart. absurd (c.in_default.not-Some _ (known chain has)))
 
 pub write_at-requires-clause-within : goal.write_at-requires-clause-within
 write_at-requires-clause-within g c =
@@ -42,6 +48,16 @@ pub returns-clause-chain : goal.returns-clause-chain
 returns-clause-chain g c = λ places.
     let image = g.D.Disk.image c.args.disk.now in
     cut_leaves c.write_at.result c.args.head.now image (g.D.Disk.image c.write_at.new.self) c.args.bucket c.args.place c.in-Some.cell c.in_ok-link.link places c.requires.bucket c.in_ok-link.ensures.fits
+    (cut_in c.args.head.now image c.args.bucket c.args.place c.in-Some.cell c.saturating_add.result c.in_ok-link.link places c.in_ok-cell.field-0 c.requires.bucket c.in-Some.is c.requires.size c.saturating_add.ensures
+    (found_in c.args.head.now image (g.D.Disk.image c.len.new.self) c.args.bucket c.args.place places c.in_ok-cell.field-0 c.requires.bucket c.len.ensures.image (c.in_ok-cell.ensures.found c.args.head.now places))
+    (subst (λ (o : Option (List ℕ)). IfSome o (λ f. c.saturating_add.result + 8 ≤ length f → c.in_ok-link.link ≡ u64_in f c.saturating_add.result)) (c.cell_of.ensures.image ∙ c.len.ensures.image) c.in_ok-link.ensures.value))
+    (subst (λ (l : List ℕ). OnOk c.write_at.result (g.D.Disk.image c.write_at.new.self ≡ option_map (put_at c.in-Some.cell l) image)) c.to_be_bytes.ensures
+    (subst (λ (o : Option (List ℕ)). OnOk c.write_at.result (g.D.Disk.image c.write_at.new.self ≡ option_map (put_at c.in-Some.cell c.to_be_bytes.result) o)) (c.number_at.ensures.image ∙ c.cell_of.ensures.image ∙ c.len.ensures.image) c.write_at.ensures.written))
+
+pub returns-clause-others : goal.returns-clause-others
+returns-clause-others g c = λ other places rest within ne.
+    let image = g.D.Disk.image c.args.disk.now in
+    cut_spares c.write_at.result c.args.head.now image (g.D.Disk.image c.write_at.new.self) c.args.bucket other c.args.place c.in-Some.cell c.in_ok-link.link places rest c.requires.bucket within ne
     (cut_in c.args.head.now image c.args.bucket c.args.place c.in-Some.cell c.saturating_add.result c.in_ok-link.link places c.in_ok-cell.field-0 c.requires.bucket c.in-Some.is c.requires.size c.saturating_add.ensures
     (found_in c.args.head.now image (g.D.Disk.image c.len.new.self) c.args.bucket c.args.place places c.in_ok-cell.field-0 c.requires.bucket c.len.ensures.image (c.in_ok-cell.ensures.found c.args.head.now places))
     (subst (λ (o : Option (List ℕ)). IfSome o (λ f. c.saturating_add.result + 8 ≤ length f → c.in_ok-link.link ≡ u64_in f c.saturating_add.result)) (c.cell_of.ensures.image ∙ c.len.ensures.image) c.in_ok-link.ensures.value))
