@@ -1,13 +1,13 @@
 -- Chains under writes into blocks, and behind the end.
-use Rattle.std.proofs.Common.{◌≡◌, ◌≢◌, ◌⊎◌, inl, inr, ℕ, ◌+◌, ◌<◌, ◌≤◌, ◌^◌, Bool, true, false, eqb, List, [], ◌∷◌, length, refl, sym, ◌∙◌, ap, subst, arith}
+use Rattle.std.proofs.Common.{◌≡◌, ◌≢◌, ◌⊎◌, inl, inr, ℕ, ◌+◌, ◌<◌, ◌≤◌, ◌^◌, Bool, true, false, eqb, cond, List, [], ◌∷◌, length, refl, sym, ◌∙◌, ap, subst, arith}
 use Rattle.std.specs.Prelude.{◌==◌, ◌||◌}
 use Rattle.std.specs.List.{list_any}
-use Rattle.std.proofs.lemmas.Bool.{eq-eqb, cases_eq}
+use Rattle.std.proofs.lemmas.Bool.{eq-eqb, ne_eqb, cases_eq}
 use Rattle.tk_disk.specs.Crash.{Torn}
 use Rattle.tk_block.specs.Number.{u64_in}
 use Rattle.tk_block.specs.Text.{base_of}
 use Rattle.tk_block.specs.declared.head.StaticHead.{StaticHead}
-use Rattle.tk_buckets.specs.Chain.{IsWhole, IsBeside, AllBeside, IsApart, AreApart, IsLinked, IsChain, extent_in, link_in, head_cell, has_block}
+use Rattle.tk_buckets.specs.Chain.{IsWhole, IsBeside, AllBeside, IsApart, AreApart, IsLinked, IsChain, extent_in, link_in, head_cell, has_block, cell_to}
 use Rattle.tk_buckets.specs.Frame.{AreInTurn, AllAmong, NoneAmong, HasBody, WritesLeaveChains}
 use Rattle.tk_buckets.proofs.Links.{Keeps, AllKept, IsInside, all_kept, whole_with, chain_kept, head_before}
 use Rattle.tk_buckets.proofs.Unlinks.{inside_beside, some_behind, has_whole}
@@ -90,6 +90,28 @@ all_apart : (f : List ℕ) (at : ℕ) (all places rest : List ℕ) → AreInTurn
 all_apart f at all [] rest turn first second none = tt
 all_apart f at all (p ∷ ps) rest turn first second none = (one_apart f at p all rest turn first.0 second none.0, all_apart f at all ps rest turn first.1 second none.1)
 
+-- ---- the cell that leads to a block
+
+or_right : (a b : Bool) → b ≡ true → (a || b) ≡ true
+or_right true b is = refl
+or_right false b is = is
+
+or_left : (a b : Bool) → a ≡ true → (a || b) ≡ true
+or_left true b is = refl
+or_left false b is = absurd (cc (is))
+
+cell_among : (cell place : ℕ) (qs : List ℕ) → (cell_to cell place qs ≡ cell) ⊎ ((q : ℕ) × (has_block q qs ≡ true) × (cell_to cell place qs ≡ q + 16))
+cell_among cell place [] = inl refl
+cell_among cell place (q ∷ qs) = elim (cases_eq q place) [
+  | inl e ↦ inl (ap (λ (b : Bool). cond b cell (cell_to (q + 16) place qs)) (eq-eqb q place e))
+  | inr ne ↦
+      let on : cell_to cell place (q ∷ qs) ≡ cell_to (q + 16) place qs = ap (λ (b : Bool). cond b cell (cell_to (q + 16) place qs)) (ne_eqb q place ne) in
+      elim (cell_among (q + 16) place qs) [
+        | inl here ↦ inr (q, or_left (eqb q q) (has_block q qs) (eq-eqb q q refl), on ∙ here)
+        | inr there ↦ inr (there.0, or_right (eqb q there.0) (has_block there.0 qs) there.1, on ∙ there.2)
+      ]
+]
+
 -- what a write leaves of chains
 pub writes_leave_chains : (h : StaticHead) → WritesLeaveChains h
 writes_leave_chains h = record {
@@ -101,4 +123,5 @@ writes_leave_chains h = record {
   behind = λ f g at n bucket places below chain past torn.
       stays_behind h f g at n torn bucket places below (omega (arith, chain.heads, past)) chain (all_kept f g at n places (all_ended h f g at n torn (u64_in f (head_cell bucket)) places past chain.linked));
   apart = all_apart;
+  cell = cell_among;
 }

@@ -1,5 +1,5 @@
 -- A bucket as the list of the places of its blocks, the first of its chain first.
-use Rattle.std.specs.Prelude.{◌≡◌, ◌⊎◌, ℕ, ◌+◌, ◌*◌, ◌^◌, ◌<◌, ◌≤◌, List, [], ◌∷◌, length, drop, Bool, Some, if◌then◌else◌, ◌==◌}
+use Rattle.std.specs.Prelude.{◌≡◌, ◌⊎◌, ℕ, ◌+◌, ◌*◌, ◌^◌, ◌<◌, ◌≤◌, List, [], ◌∷◌, length, drop, Bool, true, Option, Some, IfSome, if◌then◌else◌, ◌==◌}
 use Rattle.std.specs.List.{list_any}
 use Rattle.tk_block.specs.Number.{u64_in}
 use Rattle.tk_block.specs.Text.{head_at, base_of}
@@ -78,6 +78,10 @@ cell_to cell place (q ∷ qs) = if q == place then cell else cell_to (q + 16) pl
 abbrev pub without : (place : ℕ) → List ℕ → List ℕ
 without place [] = []
 without place (q ∷ qs) = if q == place then qs else q ∷ without place qs
+
+-- what holds of a file, where it is told, and of a bucket's chain that has the block
+abbrev pub IfInChain : Option (List ℕ) → StaticHead → (bucket place : ℕ) → (List ℕ → List ℕ → Type 0) → Type 0
+IfInChain o h bucket place Q = (places : List ℕ) → IfSome o (λ f. IsChain h f bucket places → has_block place places ≡ true → Q f places)
 
 abbrev pub place_step : (p bucket : ℕ) → List ℕ → Placed → List ℕ
 place_step p bucket found x = if x.body.kind == 4 then [] else (if is_in p bucket x.body then x.place ∷ found else found)

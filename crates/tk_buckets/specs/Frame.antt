@@ -1,11 +1,11 @@
--- What a write leaves of chains: each of these holds of what a write of n bytes leaves, and of what a crash leaves of it.
-use Rattle.std.specs.Prelude.{◌≡◌, ℕ, ◌+◌, ◌^◌, ◌<◌, ◌≤◌, List, [], ◌∷◌, length, drop, Bool, true, false, Some}
+-- What a write of n bytes leaves of chains, whole or torn.
+use Rattle.std.specs.Prelude.{◌≡◌, ◌⊎◌, ℕ, ◌+◌, ◌^◌, ◌<◌, ◌≤◌, List, [], ◌∷◌, length, drop, Bool, true, false, Some}
 use Rattle.tk_disk.specs.Crash.{Torn}
 use Rattle.tk_block.specs.Text.{base_of}
 use Rattle.tk_block.specs.Blocks.{body_at, room_of}
 use Rattle.tk_block.specs.declared.block.Body.{Body}
 use Rattle.tk_block.specs.declared.head.StaticHead.{StaticHead}
-use Rattle.tk_buckets.specs.Chain.{IsWhole, IsApart, AreApart, IsChain, extent_in, has_block}
+use Rattle.tk_buckets.specs.Chain.{IsWhole, IsApart, AreApart, IsChain, extent_in, has_block, cell_to}
 
 -- blocks of these places follow one another from a place on
 abbrev pub AreInTurn : List ℕ → (at : ℕ) → List ℕ → Type 0
@@ -46,3 +46,6 @@ pub record WritesLeaveChains (h : StaticHead) : Type 0 where
   -- of blocks that follow one another, those at some places are apart from those at others
   pub apart : (f : List ℕ) (at : ℕ) (all places rest : List ℕ) → AreInTurn f at all → AllAmong places all → AllAmong rest all
       → NoneAmong places rest → AreApart f places rest
+  -- the cell that leads to a block is the head, or the link of a block of the chain
+  pub cell : (cell place : ℕ) (places : List ℕ)
+      → (cell_to cell place places ≡ cell) ⊎ ((q : ℕ) × (has_block q places ≡ true) × (cell_to cell place places ≡ q + 16))
