@@ -13,13 +13,13 @@ returns-clause-value g c =
 pub returns-clause-stands : goal.returns-clause-stands
 returns-clause-stands g c first since hard st =
     read_on g.D.Disk.image g.D.Disk.may_leave c.args.self.now _ first since hard
-    (same_read g.D.Disk.image c.args.self.now _ c.disk.result.now c.disk.ensures.value (λ unclosed. unclosed) refl refl refl refl refl refl refl refl c.last_record.ensures.image)
+    (same_read g.D.Disk.image c.args.self.now _ c.disk.result.now c.disk.ensures.value (λ unclosed. unclosed) refl refl refl refl refl refl refl refl refl c.last_record.ensures.image)
     (shelf_at g.D.Disk.image g.D.Disk.may_leave c.args.self.now c.last_record.new.shelf c.disk.result.now c.head.result.now c.disk.ensures.value c.head.ensures c.last_record.ensures.shelf)
     (still_at g.D.Disk.image g.D.Disk.may_leave g.D.Disk.moment g.D.Disk.left_since _ _ _ c.disk.ensures.value c.last_record.ensures.still).crash st
 
 pub returns-clause-since : goal.returns-clause-since
 returns-clause-since g c t n first since hard st =
     stood_on g.D.Disk.image g.D.Disk.may_leave g.D.Disk.moment g.D.Disk.left_since c.args.self.now _ t n first since hard
-    (same_read g.D.Disk.image c.args.self.now _ c.disk.result.now c.disk.ensures.value (λ unclosed. unclosed) refl refl refl refl refl refl refl refl c.last_record.ensures.image)
+    (same_read g.D.Disk.image c.args.self.now _ c.disk.result.now c.disk.ensures.value (λ unclosed. unclosed) refl refl refl refl refl refl refl refl refl c.last_record.ensures.image)
     (shelf_at g.D.Disk.image g.D.Disk.may_leave c.args.self.now c.last_record.new.shelf c.disk.result.now c.head.result.now c.disk.ensures.value c.head.ensures c.last_record.ensures.shelf)
     (still_at g.D.Disk.image g.D.Disk.may_leave g.D.Disk.moment g.D.Disk.left_since _ _ _ c.disk.ensures.value c.last_record.ensures.still) st
