@@ -1,5 +1,5 @@
 -- A hash file as a store.
-use Rattle.std.specs.Prelude.{◌≡◌, ◌≢◌, ◌⊎◌, ℕ, ◌+◌, ◌<◌, ◌≤◌, ◌^◌, min, true, false, List, [], ◌++◌, length, take, MatchOption, Option, Some, None, IfSome}
+use Rattle.std.specs.Prelude.{◌≡◌, ◌≢◌, ◌⊎◌, ℕ, ◌+◌, ◌<◌, ◌≤◌, ◌^◌, ◌==◌, ◌&&◌, if◌then◌else◌, min, true, false, List, [], ◌++◌, length, take, MatchOption, Option, Some, None, IfSome}
 use Rattle.std.specs.Option.{option_map}
 use Rattle.tk_disk.specs.Crash.{OnlyReads}
 use Rattle.tk_model.specs.Records.{after, replay, AllFit, IsClearAlone}
@@ -38,6 +38,10 @@ groups_held Records = []
 abbrev pub floor_of : (next : ℕ) → Option ℕ → ℕ
 floor_of next None = next
 floor_of next (Some n) = n + 1
+
+-- the next number of a closing part, where the file is closed
+abbrev pub ended_with : Closing → Option ℕ
+ended_with c = if c.size == 0 then None else Some c.next
 
 -- an image restores to the first groups followed by a front of these, at least n of them
 pub record RestoresTo (first groups : List Group) (n : ℕ) (c : List ℕ) : Type 0 where
@@ -82,7 +86,7 @@ module _ {D : Type 0} where
   hash_closing s = s.closing
 
   abbrev pub hash_nature : HashStore D → Nature
-  hash_nature s = record { order = Hash; limit = min s.limit (2 ^ 40); next = s.next; writable = s.writable; marks = false; extents = Some 1; header = static_text (log_head s.log); log = None }
+  hash_nature s = record { order = Hash; limit = min s.limit (2 ^ 40); next = s.next; longest_value = 33554431; writable = s.writable; marks = false; extents = Some 1; header = static_text (log_head s.log); log = None }
 
   -- the records of the file, where the disk tells it
   abbrev pub map_in : (image : D → Option (List ℕ)) → HashStore D → Option (List (Rattle.tk_model.specs.declared.record.Pair.Pair))
@@ -95,6 +99,7 @@ module _ {D : Type 0} where
     floor = floor_of s.next s.last;
     held_back = false;
     closed = s.closed;
+    ended = if s.closed && s.writable then ended_with s.closing else None;
     cost = λ k. option_map (λ f. cost_in (log_head s.log) (groups_in (log_head s.log) f) k) (image (log_disk s.log));
     needs = λ cs. Some (extents_need (hash_nature s) 1 cs);
     log_size = 0;
