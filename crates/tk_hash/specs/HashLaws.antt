@@ -1,6 +1,6 @@
 -- The laws of hash files as stores.
 use Rattle.std.proofs.Common.{◌≡◌, ℕ, ◌+◌, ◌-◌, ◌<◌, ◌≤◌, ◌^◌, List, [], ◌∷◌, ◌++◌, length, take, drop, true, false, refl, sym, ◌∙◌, ap, subst, arith, length-append, length-take, length-drop, append_assoc}
-use Rattle.std.specs.Prelude.{Option, Some, None, IfSome}
+use Rattle.std.specs.Prelude.{Bool, Option, Some, None, IfSome, ◌==◌, ◌&&◌, if◌then◌else◌}
 use Rattle.std.specs.Option.{option_map}
 use Rattle.std.proofs.lemmas.List.{take-append-drop, take-append-le, append-nil}
 use Rattle.std.proofs.lemmas.Option.{IfSome_then}
@@ -194,6 +194,21 @@ module _ {D : Type 0} (image : D → Option (List ℕ)) where
 
   pub hash_unended : (s : HashStore D) → (hash_shown image s).closed ≡ false → (hash_shown image s).ended ≡ None
   hash_unended s unclosed = rw unclosed refl
+
+  chosen : (b : Bool) (o : Option ℕ) (n : ℕ) → (if b then o else None) ≡ Some n → o ≡ Some n
+  chosen true o n is = is
+  chosen false o n is = absurd (cc)
+
+  sized : (b : Bool) (m n : ℕ) → (if b then None else Some m) ≡ Some n → m ≡ n
+  sized true m n is = absurd (cc)
+  sized false m n is = cc
+
+  -- a store that was ended with a number has it in the closing part that stands in the file
+  pub hash_ended : (may_leave : D → List ℕ → Type 0) (s : HashStore D) (first : First) (since : List Group) (hard n : ℕ) → HashStands image may_leave s first since hard → (hash_shown image s).ended ≡ Some n
+      → IfSome (image (hash_disk s)) (λ f. (c : Closing) × (c.next ≡ n) × (f ≡ text_of (log_head s.log) c (groups_held first.held ++ since)))
+  hash_ended may_leave s first since hard n st ended =
+      let next : s.closing.next ≡ n = sized (s.closing.size == 0) s.closing.next n (chosen (s.closed && s.writable) (ended_with s.closing) n ended) in
+      IfSome_then (image (log_disk s.log)) st.there (λ f there. (s.closing, next, subst (λ (gs : List Group). f ≡ text_of (log_head s.log) s.closing (gs ++ since)) (sym (ap groups_held st.held)) there))
 
 pub hash_values : {D : Type 0} (s : HashStore D) → (16777215 ≤ (hash_nature s).longest_value) × ((hash_nature s).longest_value ≤ 33554431)
 hash_values s = (omega arith, omega arith)

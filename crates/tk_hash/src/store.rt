@@ -7,7 +7,7 @@ ghost use Rattle.tk_model.specs.declared.record.Change.{Change as Changed};
 ghost use Rattle.tk_store.specs.Store.{First, made, ended_by, extent_of as change_extent, HasCause, NeverFull, OkOrFault, UnlessFault, OnNoMemory, IsWhole, GivesInto, Keeps, KeepsSince, LeavesSafe, OnlyLooks, GoesOn};
 ghost use Rattle.tk_append.specs.Log.{closed_text};
 
-use crate::plan::{NewHeads, plan_changes, put_heads};
+use crate::plan::{NewHeads, plan_changes, put_heads, set_heads};
 use crate::seek::{get_value, get_value_into};
 use crate::shelf::{Shelf, first_record, last_record};
 use std::alloc::Global;
@@ -40,6 +40,8 @@ pub struct HashStore<D: Disk> {
     pub(crate) writable: bool,
     pub(crate) closed: bool,
     pub(crate) limit: u64,
+    /// The newest block of each bucket.
+    pub(crate) heads: Vec<u64>,
     /// Room for a block's front, so that look-ups take no memory.
     pub(crate) buffer: Vec<u8>,
     pub(crate) shelf: Option<Shelf>,
@@ -98,6 +100,7 @@ impl<D: Disk> HashStore<D> {
             self.alloc,
             self.log.disk(),
             &head,
+            &self.heads,
             end,
             self.count,
             &mut self.buffer,
@@ -136,6 +139,7 @@ impl<D: Disk> HashStore<D> {
         self.shelf = None;
         told(self.log.append(number))?;
         told(put_heads(&mut self.log, &staged.heads))?;
+        set_heads(&mut self.heads, &staged.heads);
         self.count = staged.count;
         self.last = Some(number);
         Ok(())
@@ -187,6 +191,7 @@ impl<D: Disk> HashStore<D> {
             writable: _,
             closed: _,
             limit: _,
+            heads: _,
             buffer: _,
             shelf: _,
             staged: _,
@@ -288,6 +293,7 @@ impl<D: Disk> SeqStore for HashStore<D> {
             self.alloc,
             self.log.disk(),
             &head,
+            &self.heads,
             &mut self.buffer,
             key,
             out,
@@ -304,7 +310,14 @@ impl<D: Disk> SeqStore for HashStore<D> {
         ensures answers { OkOrFault result }
     {
         let head = *self.log.head();
-        get_value_into(self.log.disk(), &head, &mut self.buffer, key, into)
+        get_value_into(
+            self.log.disk(),
+            &head,
+            &self.heads,
+            &mut self.buffer,
+            key,
+            into,
+        )
     }
 
     fn next(&mut self, bound: &Bound) -> Result<Option<Pair>, StoreError> {

@@ -5,7 +5,7 @@ ghost use Rattle.tk_model.specs.declared.record.Group.{Group};
 ghost use Rattle.tk_model.specs.Records.{find, after, IsClearAlone};
 ghost use Rattle.tk_model.specs.Entries.{group_of, touched};
 ghost use Rattle.tk_proc.specs.Runs.{short, short_status, action_changes};
-ghost use Rattle.tk_store.specs.Store.{First, made, floor_after, AllFitWithin, extent_of, HasCause, UnlessFault, OnFull, Keeps, KeepsSince, LeavesSafe, IsWhole, TellsFull, SameContents};
+ghost use Rattle.tk_store.specs.Store.{First, made, floor_after, AllFitWithin, extent_of, HasCause, UnlessFault, OnFull, Keeps, KeepsSince, LeavesSafe, IsWhole, TellsFull, SameContents, OnlyLooks};
 ghost use Rattle.tk_store.specs.OneRecord.{call_changes, TurnsTo, TellsFullOfChanges};
 
 use crate::{SeqStore, StoreError};
@@ -128,6 +128,8 @@ pub fn run_on<S: SeqStore, P: RecordProcessor>(
     ensures whole { UnlessFault result (IsWhole S.stands store.new) }
     ensures refused { OnErr result (UnlessFault result (Keeps S.stands store.old store.new × KeepsSince S.stood store.old store.new × SameContents (S.shown store.old) (S.shown store.new))) }
     ensures unchanged { OnFull result (S.shown store.new ≡ S.shown store.old) }
+    ensures looks { IfSome (S.shown store.old).map (λ m. call_changes P.acts p.old key.now m ≡ [] →
+        OnlyLooks S.nature S.shown S.stands S.stood S.untouched S.moment S.taken_count store.old store.new) }
     ensures reads { (S.nature store.old).writable ≡ false → S.untouched store.old store.new }
     ensures nature { S.nature store.new ≡ S.nature store.old }
     ensures open { (S.shown store.new).closed ≡ false }
