@@ -1,5 +1,6 @@
 pub mod Cuts
 pub mod Follows
+pub mod Frames
 pub mod Links
 pub mod Moments
 pub mod Searches

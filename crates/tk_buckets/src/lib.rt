@@ -1,10 +1,12 @@
 //! The buckets of a file of blocks, as linked lists.
 #![tactic(auto)]
 
+mod frame;
 mod linking;
 mod places;
 mod read;
 
+pub use frame::writes_leave_chains;
 pub use linking::{insert, unlink};
 pub use places::{PlaceList, chain};
 pub use read::number_at;

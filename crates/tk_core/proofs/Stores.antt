@@ -58,7 +58,7 @@ module _ (f : Frame) (law : List Pair → Type 0) (m : List Pair) (log : List En
         placed = k.placed;
         weighs = k.weighs;
         heavy = k.heavy;
-        still = record { records = k.still.records; groups = k.still.groups };
+        still = record { records = k.still.records; groups = k.still.groups; hard = k.still.hard };
         out = λ q. dite (ℕ_discrete q i)
             (λ e. subst (λ (z : ℕ). has z (i ∷ v.out) ≡ (has (store_lock f z) v.held && put away i true z)) (sym e)
             (has_head i v.out ∙ sym (ap (λ (a : Bool). has (store_lock f i) v.held && a) (put_at away i true i refl) ∙ ap (λ (b : Bool). b && true) may.holds)))
@@ -105,7 +105,7 @@ module _ (f : Frame) (law : List Pair → Type 0) (m : List Pair) (log : List En
         placed = k.placed;
         weighs = k.weighs;
         heavy = k.heavy;
-        still = record { records = k.still.records; groups = k.still.groups };
+        still = record { records = k.still.records; groups = k.still.groups; hard = k.still.hard };
         out = λ q. dite (ℕ_discrete q i)
             (λ e. subst (λ (z : ℕ). has z (without i v.out) ≡ (has (store_lock f z) v.held && put away i false z)) (sym e)
             (hasnt_without i v.out ∙ sym (ap (λ (a : Bool). has (store_lock f i) v.held && a) (put_at away i false i refl) ∙ ap (λ (z : Bool). z && false) holds)))
