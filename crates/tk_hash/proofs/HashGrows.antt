@@ -5,6 +5,7 @@ use Rattle.std.specs.Option.{option_map, is_some}
 use Rattle.std.proofs.lemmas.List.{append-nil, take_all, take-append-le, length-replicate}
 use Rattle.std.proofs.lemmas.Option.{IfSome_then}
 use Rattle.std.proofs.lemmas.Bool.Decides.{nat_tests}
+use Rattle.tk_disk.specs.Past.{Past}
 use Rattle.tk_disk.specs.Crash.{Torn, Follows, Within, Only, LeavesOnly}
 use Rattle.tk_model.specs.declared.record.Order.TheVariants.{Hash}
 use Rattle.tk_model.specs.declared.record.Pair.{Pair}
@@ -156,8 +157,8 @@ planned P groups o to h k e i a b d told =
     subst (λ (x : Option (List ℕ)). IfSome x (λ f. IsFile k f groups → P k i)) (sym a)
     (subst (λ (x : StaticHead). IfSome o (λ f. IsFile x f groups → P x i)) (sym b) (subst (λ (n : ℕ). IfSome o (λ f. IsFile h f groups → P h n)) (sym d) told))
 
-module _ {D : Type 0} (image : D → Option (List ℕ)) (may_leave : D → List ℕ → Type 0) where
-  module _ (s : HashStore D) (first : First) (since : List Group) (hard : ℕ) (st : HashStands image may_leave s first since hard) where
+module _ {D : Type 0} (image : D → Option (List ℕ)) (may_leave : D → List ℕ → Type 0) (past : D → Past) where
+  module _ (s : HashStore D) (first : First) (since : List Group) (hard : ℕ) (st : HashStands image may_leave past s first since hard) where
     -- the file is as long as the log says, and has its heads
     pub length_there : IfSome (image (log_disk s.log)) (λ f. length f ≡ log_end s.log)
     length_there = IfSome_then (image (log_disk s.log)) st.there (λ f there. ap length there ∙ length-text_of (log_head s.log) s.closing (st.groups ++ since) ∙ sym st.end_is)
@@ -169,8 +170,8 @@ module _ {D : Type 0} (image : D → Option (List ℕ)) (may_leave : D → List 
     header_there = IfSome_then (image (log_disk s.log)) length_there (λ f long. omega (arith, long, base_within))
 
     -- what waits, and that close was called, is no part of what a store stands for
-    pub restaged : (o : Option Staged) (b : Bool) → (b ≡ false → s.closed ≡ false) → HashStands image may_leave (record s { staged = o; closed = b }) first since hard
-    restaged o b unclosed = rested image may_leave s (record s { staged = o; closed = b }) first since hard hard st
+    pub restaged : (o : Option Staged) (b : Bool) → (b ≡ false → s.closed ≡ false) → HashStands image may_leave past (record s { staged = o; closed = b }) first since hard
+    restaged o b unclosed = rested image may_leave past s (record s { staged = o; closed = b }) first since hard hard st
         (record { head = refl; end = refl; closing = refl; count = refl; next = refl; last = refl; writable = refl; closed = unclosed; heads = refl; buffer = refl; bytes = refl }) (shelf_same image s) st.synced st.kept
 
     -- where its groups end
@@ -194,21 +195,21 @@ module _ {D : Type 0} (image : D → Option (List ℕ)) (may_leave : D → List 
   }
 
   -- the records after a group, and without one
-  pub map_more : (s t : HashStore D) (n : ℕ) (cs : List Change) (first : First) (since : List Group) (hard : ℕ) → is_some (image (log_disk t.log)) ≡ is_some (image (log_disk s.log)) → HashStands image may_leave s first since hard
-      → HashStands image may_leave t first (since ++ record { number = n; changes = cs } ∷ []) hard → map_in image t ≡ option_map (after Hash cs) (map_in image s)
+  pub map_more : (s t : HashStore D) (n : ℕ) (cs : List Change) (first : First) (since : List Group) (hard : ℕ) → is_some (image (log_disk t.log)) ≡ is_some (image (log_disk s.log)) → HashStands image may_leave past s first since hard
+      → HashStands image may_leave past t first (since ++ record { number = n; changes = cs } ∷ []) hard → map_in image t ≡ option_map (after Hash cs) (map_in image s)
   map_more s t n cs first since hard told old new =
       let more : Group = record { number = n; changes = cs } in
-      map_is image may_leave t first (since ++ more ∷ []) hard new
+      map_is image may_leave past t first (since ++ more ∷ []) hard new
       ∙ two_mapped (image (log_disk s.log)) (image (log_disk t.log)) (replay Hash since first.records) (replay Hash (since ++ more ∷ []) first.records) (after Hash cs) told (replay_more Hash since more first.records)
-      ∙ ap (λ (m : Option (List Pair)). option_map (after Hash cs) m) (sym (map_is image may_leave s first since hard old))
+      ∙ ap (λ (m : Option (List Pair)). option_map (after Hash cs) m) (sym (map_is image may_leave past s first since hard old))
 
-  pub map_kept : (s t : HashStore D) (first : First) (since : List Group) (hard now : ℕ) → is_some (image (log_disk t.log)) ≡ is_some (image (log_disk s.log)) → HashStands image may_leave s first since hard → HashStands image may_leave t first since now
+  pub map_kept : (s t : HashStore D) (first : First) (since : List Group) (hard now : ℕ) → is_some (image (log_disk t.log)) ≡ is_some (image (log_disk s.log)) → HashStands image may_leave past s first since hard → HashStands image may_leave past t first since now
       → map_in image t ≡ map_in image s
   map_kept s t first since hard now told old new =
-      map_is image may_leave t first since now new ∙ same_mapped (image (log_disk s.log)) (image (log_disk t.log)) (replay Hash since first.records) told ∙ sym (map_is image may_leave s first since hard old)
+      map_is image may_leave past t first since now new ∙ same_mapped (image (log_disk s.log)) (image (log_disk t.log)) (replay Hash since first.records) told ∙ sym (map_is image may_leave past s first since hard old)
 
-  pub stood_staged : (moment : D → ℕ) (left_since : D → ℕ → List ℕ → Type 0) (s : HashStore D) (o : Option Staged) (b : Bool) → (b ≡ false → s.closed ≡ false) → (since_when n : ℕ) (first : First) (since : List Group) (hard : ℕ) → HashStood image may_leave moment left_since s since_when n first since hard
-      → HashStood image may_leave moment left_since (record s { staged = o; closed = b }) since_when n first since hard
+  pub stood_staged : (moment : D → ℕ) (left_since : D → ℕ → List ℕ → Type 0) (left_with : D → ℕ → Past × List ℕ → Type 0) (s : HashStore D) (o : Option Staged) (b : Bool) → (b ≡ false → s.closed ≡ false) → (since_when n : ℕ) (first : First) (since : List Group) (hard : ℕ) → HashStood image may_leave past moment left_since left_with s since_when n first since hard
+      → HashStood image may_leave past moment left_since left_with (record s { staged = o; closed = b }) since_when n first since hard
   stood_staged moment left_since s o b unclosed since_when n first since hard st = record {
     stands = restaged s first since hard st.stands o b unclosed;
     safe = record { within = st.safe.within; each = st.safe.each; kept = st.safe.kept };
@@ -216,7 +217,7 @@ module _ {D : Type 0} (image : D → Option (List ℕ)) (may_leave : D → List 
     before = st.before;
   }
 
-  module _ (moment : D → ℕ) (left_since : D → ℕ → List ℕ → Type 0) (s : HashStore D) (first : First) (since : List Group) (hard : ℕ) (st : HashStands image may_leave s first since hard) where
+  module _ (moment : D → ℕ) (left_since : D → ℕ → List ℕ → Type 0) (left_with : D → ℕ → Past × List ℕ → Type 0) (s : HashStore D) (first : First) (since : List Group) (hard : ℕ) (st : HashStands image may_leave past s first since hard) where
     -- a group behind the others keeps them
     pub appended_keeps : (mid : D) (n : ℕ) → Follows (Torn (log_end s.log) n) (may_leave (log_disk s.log)) (may_leave mid) → LeavesOnly moment left_since (log_disk s.log) mid (λ c. (d : List ℕ) × may_leave (log_disk s.log) d × Torn (log_end s.log) n d c)
         → KeepsGroups may_leave moment left_since (log_head s.log) (groups_held first.held ++ take hard since) (log_disk s.log) mid
@@ -234,7 +235,7 @@ module _ {D : Type 0} (image : D → Option (List ℕ)) (may_leave : D → List 
         (keeps_torn may_leave moment left_since (log_head s.log) (groups_held first.held ++ take hard since) mid last 64 (8 * 2 ^ k.p) (inl (omega arith, within)) follows time)
 
   -- the file that a store closes
-  pub closed_file : (s : HashStore D) (new : Option (List ℕ)) (next : ℕ) (groups since : List Group) (hard : ℕ) → HashStands image may_leave s (opening groups) since hard
+  pub closed_file : (s : HashStore D) (new : Option (List ℕ)) (next : ℕ) (groups since : List Group) (hard : ℕ) → HashStands image may_leave past s (opening groups) since hard
       → new ≡ option_map (with_closing (record { size = log_end s.log; count = s.count; next = next })) (image (log_disk s.log))
       → IfSome (image (log_disk s.log)) (λ _. new ≡ Some (closed_text (log_head s.log) (groups ++ since) next))
   closed_file s new next groups since hard st now =
@@ -242,7 +243,7 @@ module _ {D : Type 0} (image : D → Option (List ℕ)) (may_leave : D → List 
       (closed_now (image (log_disk s.log)) new (log_head s.log) s.closing (st.groups ++ since) (log_end s.log) s.count next st.there st.end_is st.count now)
 
   -- the file that was only read
-  pub read_file : (s : HashStore D) (groups since : List Group) (hard : ℕ) → HashStands image may_leave s (opening groups) since hard → s.writable ≡ false
+  pub read_file : (s : HashStore D) (groups since : List Group) (hard : ℕ) → HashStands image may_leave past s (opening groups) since hard → s.writable ≡ false
       → IfSome (image (log_disk s.log)) (λ _. image (log_disk s.log) ≡ Some (closed_text (log_head s.log) groups s.next))
   read_file s groups since hard st only =
       let same : st.groups ++ since ≡ groups = ap (λ (l : List Group). st.groups ++ l) (st.no_group only) ∙ append-nil st.groups ∙ sym (same_groups groups st.groups st.held) in
@@ -250,33 +251,33 @@ module _ {D : Type 0} (image : D → Option (List ℕ)) (may_leave : D → List 
       (closed_still (image (log_disk s.log)) (image (log_disk s.log)) (log_head s.log) s.closing (st.groups ++ since) (log_end s.log) s.count s.next st.there (st.unmarked only) st.end_is st.count refl)
 
   -- the store after a group
-  pub grown : (moment : D → ℕ) (left_since : D → ℕ → List ℕ → Type 0) (s t : HashStore D) (g : Staged) (n : ℕ) (cs : List Change) (mid : Option (List ℕ)) (first : First) (since : List Group) (hard : ℕ)
-      → (is : IsStaged image s cs g) → AllFit cs → IsClearAlone cs → s.writable ≡ true → floor_of s.next s.last ≤ n → n < 2 ^ 64 → HashStands image may_leave s first since hard
+  pub grown : (moment : D → ℕ) (left_since : D → ℕ → List ℕ → Type 0) (left_with : D → ℕ → Past × List ℕ → Type 0) (s t : HashStore D) (g : Staged) (n : ℕ) (cs : List Change) (mid : Option (List ℕ)) (first : First) (since : List Group) (hard : ℕ)
+      → (is : IsStaged image s cs g) → AllFit cs → IsClearAlone cs → s.writable ≡ true → floor_of s.next s.last ≤ n → n < 2 ^ 64 → HashStands image may_leave past s first since hard
       → log_head t.log ≡ log_head s.log → log_end t.log ≡ end_of (log_end s.log) (group_bodies n cs) → t.count ≡ g.count → t.last ≡ Some n → t.next ≡ s.next → t.writable ≡ s.writable → t.closing ≡ s.closing → t.closed ≡ s.closed → t.heads.items ≡ with_heads g.heads s.heads.items → t.buffer.items ≡ s.buffer.items → t.shelf ≡ None
       → is_some (image (log_disk t.log)) ≡ is_some (image (log_disk s.log)) → mid ≡ option_map (λ f. f ++ group_text (record { number = n; changes = cs }) (log_end s.log) is.links) (image (log_disk s.log))
       → PutsHeads mid (image (log_disk t.log)) (log_head s.log) g.heads
       → KeepsGroups may_leave moment left_since (log_head s.log) (groups_held first.held ++ take hard since) (log_disk s.log) (log_disk t.log)
-      → HashStands image may_leave t first (since ++ record { number = n; changes = cs } ∷ []) hard
+      → HashStands image may_leave past t first (since ++ record { number = n; changes = cs } ∷ []) hard
   grown moment left_since s t g n cs mid first since hard is fits alone may above small st head end count last next writable closing closed heads buffer shelf told appended puts keeps =
       let more : Group = record { number = n; changes = cs } in
       let h : StaticHead = log_head s.log in
       let o : Option (List ℕ) = image (log_disk s.log) in
       let all : List Group = st.groups ++ since in
       let joined : all ++ more ∷ [] ≡ st.groups ++ (since ++ more ∷ []) = append_assoc st.groups since (more ∷ []) in
-      let file = is_file image may_leave s first since hard st in
+      let file = is_file image may_leave past s first since hard st in
       let floor : floor_of t.next t.last ≡ n + 1 = ap (λ (k : Option ℕ). floor_of t.next k) last in
       let counts : IfSome (image (log_disk t.log)) (λ f. g.count ≡ length (after Hash cs (replay Hash all []))) = count_more o (image (log_disk t.log)) _ _ _ told file st.count (is.count_is all) in
       let ends : end_of (log_end s.log) (group_bodies n cs) ≡ end_of (base_of h.p) (bodies_of (all ++ more ∷ [])) = ap (λ (k : ℕ). end_of k (group_bodies n cs)) st.end_is ∙ sym (end_more (base_of h.p) all more) in
       let texts : IfSome (image (log_disk t.log)) (λ f. f ≡ text_of h s.closing (all ++ more ∷ [])) =
-      file_more o mid (image (log_disk t.log)) h s.closing all more (log_end s.log) is.links s.heads.items g.heads st.end_is told appended file st.there (is.links_are n all) (heads_stand image may_leave s first since hard st) (is.heads_are n all) puts in
+      file_more o mid (image (log_disk t.log)) h s.closing all more (log_end s.log) is.links s.heads.items g.heads st.end_is told appended file st.there (is.links_are n all) (heads_stand image may_leave past s first since hard st) (is.heads_are n all) puts in
       let legal : AreGroups 0 (n + 1) (all ++ more ∷ []) =
-      groups_joined 0 (floor_of s.next s.last) (n + 1) all (more ∷ []) (all_legal image may_leave s first since hard st) (above, is.some, fits, alone, omega arith) in
+      groups_joined 0 (floor_of s.next s.last) (n + 1) all (more ∷ []) (all_legal image may_leave past s first since hard st) (above, is.some, fits, alone, omega arith) in
       let grown_file : IfSome (image (log_disk t.log)) (λ f. IsFile h f (all ++ more ∷ [])) =
       IfSome_then (image (log_disk t.log)) texts (λ f there. file_of h s.closing (all ++ more ∷ []) (n + 1) (end_of (log_end s.log) (group_bodies n cs)) f st.header st.generation legal (omega (arith, small)) ends (omega (arith, is.ends n)) there) in
       let newest : IfSome (image (log_disk t.log)) (λ f. HeadsAre h.p (with_heads g.heads s.heads.items) (blocks_of h (all ++ more ∷ []))) =
       count_more o (image (log_disk t.log)) (λ f. IsFile h f all) Unit _ told file (always_there o) (IfSome_then o (is.heads_are n all) (λ f are is_file _. heads_behind h all more (log_end s.log) (with_heads g.heads s.heads.items) st.end_is (are is_file))) in
       let kept : IfSome (image (log_disk t.log)) (λ f. (c : List ℕ) → may_leave (log_disk t.log) c → IsKept h (groups_held first.held ++ take hard since) c) =
-      carried o (image (log_disk t.log)) told (kept_held image may_leave s first since hard st may) keeps.now in
+      carried o (image (log_disk t.log)) told (kept_held image may_leave past s first since hard st may) keeps.now in
       record {
         groups = st.groups;
         held = st.held;
@@ -311,18 +312,18 @@ module _ {D : Type 0} (image : D → Option (List ℕ)) (may_leave : D → List 
 
   -- the store after a sync
   pub synced : (s t : HashStore D) (b : Bool) (first : First) (since : List Group) (hard : ℕ) → SameFile image s t → KeepsShelf image s t.shelf → (b ≡ true → s.writable ≡ true → IfSome (image (log_disk s.log)) (λ f. Only f (may_leave (log_disk t.log))))
-      → Within (may_leave (log_disk s.log)) (may_leave (log_disk t.log)) → HashStands image may_leave s first since hard → HashStands image may_leave t first since (if b then length since else hard)
+      → Within (may_leave (log_disk s.log)) (may_leave (log_disk t.log)) → HashStands image may_leave past s first since hard → HashStands image may_leave past t first since (if b then length since else hard)
   synced s t true first since hard same shelf only within st =
-      rested image may_leave s t first since hard (length since) st same shelf (omega arith)
+      rested image may_leave past s t first since hard (length since) st same shelf (omega arith)
       (λ may. subst (λ (l : List Group). IfSome (image (log_disk s.log)) (λ f. (c : List ℕ) → may_leave (log_disk t.log) c → IsKept (log_head s.log) (st.groups ++ l) c)) (sym (take_whole since))
-      (only_kept (image (log_disk s.log)) (log_head s.log) (st.groups ++ since) (may_leave (log_disk t.log)) (is_file image may_leave s first since hard st) (only refl may)))
+      (only_kept (image (log_disk s.log)) (log_head s.log) (st.groups ++ since) (may_leave (log_disk t.log)) (is_file image may_leave past s first since hard st) (only refl may)))
   synced s t false first since hard same shelf only within st =
-      rested image may_leave s t first since hard hard st same shelf st.synced (λ may. IfSome_then (image (log_disk s.log)) (st.kept may) (λ f kept c left. kept c (within c left)))
+      rested image may_leave past s t first since hard hard st same shelf st.synced (λ may. IfSome_then (image (log_disk s.log)) (st.kept may) (λ f kept c left. kept c (within c left)))
 
   -- the store after another closing part
-  pub marked : (s t : HashStore D) (new : Closing) (first : First) (since : List Group) (hard : ℕ) → s.writable ≡ true → HashStands image may_leave s first since hard → log_head t.log ≡ log_head s.log → log_end t.log ≡ log_end s.log → t.closing ≡ new
+  pub marked : (s t : HashStore D) (new : Closing) (first : First) (since : List Group) (hard : ℕ) → s.writable ≡ true → HashStands image may_leave past s first since hard → log_head t.log ≡ log_head s.log → log_end t.log ≡ log_end s.log → t.closing ≡ new
       → t.count ≡ s.count → t.next ≡ s.next → t.last ≡ s.last → t.writable ≡ s.writable → t.heads.items ≡ s.heads.items → t.buffer.items ≡ s.buffer.items → t.shelf ≡ s.shelf → t.closed ≡ true
-      → image (log_disk t.log) ≡ option_map (with_closing new) (image (log_disk s.log)) → IfSome (image (log_disk t.log)) (λ f. Only f (may_leave (log_disk t.log))) → HashStands image may_leave t first since (length since)
+      → image (log_disk t.log) ≡ option_map (with_closing new) (image (log_disk s.log)) → IfSome (image (log_disk t.log)) (λ f. Only f (may_leave (log_disk t.log))) → HashStands image may_leave past t first since (length since)
   marked s t new first since hard may st head end closing count next last writable heads buffer shelf closed written only =
       let h : StaticHead = log_head s.log in
       let o : Option (List ℕ) = image (log_disk s.log) in
@@ -330,7 +331,7 @@ module _ {D : Type 0} (image : D → Option (List ℕ)) (may_leave : D → List 
       let told : is_some (image (log_disk t.log)) ≡ is_some o = ap is_some written ∙ still_some o (with_closing new) in
       let texts : IfSome (image (log_disk t.log)) (λ f. f ≡ text_of h new all) = closed_there o (image (log_disk t.log)) h s.closing new all st.there written in
       let file : IfSome (image (log_disk t.log)) (λ f. IsFile h f all) =
-      IfSome_then (image (log_disk t.log)) texts (λ f there. file_of h new all (floor_of s.next s.last) (log_end s.log) f st.header st.generation (all_legal image may_leave s first since hard st) st.top st.end_is st.end_fits there) in
+      IfSome_then (image (log_disk t.log)) texts (λ f there. file_of h new all (floor_of s.next s.last) (log_end s.log) f st.header st.generation (all_legal image may_leave past s first since hard st) st.top st.end_is st.end_fits there) in
       record {
         groups = st.groups;
         held = st.held;
@@ -346,7 +347,7 @@ module _ {D : Type 0} (image : D → Option (List ℕ)) (may_leave : D → List 
         end_fits = rw end st.end_fits;
         buffer = rw buffer st.buffer;
         heads = rw (head, heads)
-            (heads_known (image (log_disk t.log)) h s.heads.items all st.heads.whole file (carried o (image (log_disk t.log)) told (heads_stand image may_leave s first since hard st) (λ are. are)));
+            (heads_known (image (log_disk t.log)) h s.heads.items all st.heads.whole file (carried o (image (log_disk t.log)) told (heads_stand image may_leave past s first since hard st) (λ are. are)));
         mark = λ _ unclosed. absurd (cc (closed, unclosed));
         no_group = rw writable st.no_group;
         there = rw (head, closing) texts;

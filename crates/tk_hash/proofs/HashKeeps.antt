@@ -6,6 +6,7 @@ use Rattle.std.proofs.lemmas.Option.{IfSome_then}
 use Rattle.std.proofs.lemmas.List.{take_at}
 use Rattle.std.specs.Vec.{with_items}
 use Rattle.std.specs.declared.vec.Vec.{Vec}
+use Rattle.tk_disk.specs.Past.{Past}
 use Rattle.tk_disk.specs.Crash.{Within, OnlyReads}
 use Rattle.tk_model.specs.declared.record.Order.TheVariants.{Hash}
 use Rattle.tk_model.specs.declared.record.Group.{Group}
@@ -130,10 +131,10 @@ pub heads_known : (o : Option (List ℕ)) (h : StaticHead) (heads : List ℕ) (g
 heads_known None h heads groups whole file are = record { whole = whole; newest = tt }
 heads_known (Some f) h heads groups whole file are = record { whole = whole; newest = subst (λ (gs : List Group). HeadsAre h.p heads (blocks_of h gs)) (sym (reads_back h f groups file)) are }
 
-module _ {D : Type 0} (image : D → Option (List ℕ)) (may_leave : D → List ℕ → Type 0) where
+module _ {D : Type 0} (image : D → Option (List ℕ)) (may_leave : D → List ℕ → Type 0) (past : D → Past) where
   -- another hard number, and another disk that tells the same
-  pub rested : (s t : HashStore D) (first : First) (since : List Group) (hard now : ℕ) (st : HashStands image may_leave s first since hard) → SameFile image s t → KeepsShelf image s t.shelf → now ≤ length since
-      → (s.writable ≡ true → IfSome (image (log_disk s.log)) (λ f. (c : List ℕ) → may_leave (log_disk t.log) c → IsKept (log_head s.log) (st.groups ++ take now since) c)) → HashStands image may_leave t first since now
+  pub rested : (s t : HashStore D) (first : First) (since : List Group) (hard now : ℕ) (st : HashStands image may_leave past s first since hard) → SameFile image s t → KeepsShelf image s t.shelf → now ≤ length since
+      → (s.writable ≡ true → IfSome (image (log_disk s.log)) (λ f. (c : List ℕ) → may_leave (log_disk t.log) c → IsKept (log_head s.log) (st.groups ++ take now since) c)) → HashStands image may_leave past t first since now
   rested s t first since hard now st same shelf within kept = record {
     groups = st.groups;
     held = st.held;
@@ -154,32 +155,32 @@ module _ {D : Type 0} (image : D → Option (List ℕ)) (may_leave : D → List 
     there = rw (same.bytes, same.head, same.closing) st.there;
     count = rw (same.bytes, same.count) st.count;
     unmarked = rw (same.writable, same.bytes, same.closing, same.end, same.count, same.next) st.unmarked;
-    shelf = rw (same.bytes, same.head) (shelf_on (image (log_disk s.log)) (λ f. IsFile (log_head s.log) f (st.groups ++ since)) _ _ (is_file image may_leave s first since hard st) (shelf (st.groups ++ since)) st.shelf);
+    shelf = rw (same.bytes, same.head) (shelf_on (image (log_disk s.log)) (λ f. IsFile (log_head s.log) f (st.groups ++ since)) _ _ (is_file image may_leave past s first since hard st) (shelf (st.groups ++ since)) st.shelf);
     kept = rw (same.writable, same.bytes, same.head) kept;
   }
 
   -- the heads in memory are those of its groups
-  pub heads_stand : (s : HashStore D) (first : First) (since : List Group) (hard : ℕ) (st : HashStands image may_leave s first since hard)
+  pub heads_stand : (s : HashStore D) (first : First) (since : List Group) (hard : ℕ) (st : HashStands image may_leave past s first since hard)
       → IfSome (image (log_disk s.log)) (λ f. HeadsAre (log_head s.log).p s.heads.items (blocks_of (log_head s.log) (st.groups ++ since)))
-  heads_stand s first since hard st = heads_there (image (log_disk s.log)) (log_head s.log) s.heads.items (st.groups ++ since) st.heads (is_file image may_leave s first since hard st)
+  heads_stand s first since hard st = heads_there (image (log_disk s.log)) (log_head s.log) s.heads.items (st.groups ++ since) st.heads (is_file image may_leave past s first since hard st)
 
   -- and those of a disk that was lent
-  pub heads_at : (s : HashStore D) (lent : D) (h : StaticHead) (heads : List ℕ) → IsWhole (HashStands image may_leave) s → lent ≡ log_disk s.log → h ≡ log_head s.log → heads ≡ s.heads.items → KnowsHeads (image lent) h heads
+  pub heads_at : (s : HashStore D) (lent : D) (h : StaticHead) (heads : List ℕ) → IsWhole (HashStands image may_leave past) s → lent ≡ log_disk s.log → h ≡ log_head s.log → heads ≡ s.heads.items → KnowsHeads (image lent) h heads
   heads_at s lent h heads w at head same = rw (at, head, same) w.3.heads
 
   -- a reading
   pub read_on : (s t : HashStore D) (first : First) (since : List Group) (hard : ℕ) → SameFile image s t → KeepsShelf image s t.shelf → Within (may_leave (log_disk s.log)) (may_leave (log_disk t.log))
-      → HashStands image may_leave s first since hard → HashStands image may_leave t first since hard
+      → HashStands image may_leave past s first since hard → HashStands image may_leave past t first since hard
   read_on s t first since hard same shelf within st =
       rested s t first since hard hard st same shelf st.synced (λ may. IfSome_then (image (log_disk s.log)) (st.kept may) (λ f kept c left. kept c (within c left)))
 
   -- where the disk tells, the records are those of the groups
-  pub map_is : (s : HashStore D) (first : First) (since : List Group) (hard : ℕ) → HashStands image may_leave s first since hard → map_in image s ≡ option_map (λ f. replay Hash since first.records) (image (log_disk s.log))
+  pub map_is : (s : HashStore D) (first : First) (since : List Group) (hard : ℕ) → HashStands image may_leave past s first since hard → map_in image s ≡ option_map (λ f. replay Hash since first.records) (image (log_disk s.log))
   map_is s first since hard st = mapped_same (image (log_disk s.log)) (λ f. replay Hash (groups_in (log_head s.log) f) []) (replay Hash since first.records)
-      (IfSome_then (image (log_disk s.log)) (is_file image may_leave s first since hard st) (λ f file. ap (λ (gs : List Group). replay Hash gs []) (reads_back (log_head s.log) f (st.groups ++ since) file) ∙ records_are image may_leave s first since hard st))
+      (IfSome_then (image (log_disk s.log)) (is_file image may_leave past s first since hard st) (λ f file. ap (λ (gs : List Group). replay Hash gs []) (reads_back (log_head s.log) f (st.groups ++ since) file) ∙ records_are image may_leave past s first since hard st))
 
   -- what was told of the groups of a file, of a disk that was lent
-  pub told_by : {B : Type 0} (s : HashStore D) (lent : D) (h : StaticHead) → IsWhole (HashStands image may_leave) s → lent ≡ log_disk s.log → h ≡ log_head s.log → (g : StaticHead → List Group → B) (P : D → B → Type 0)
+  pub told_by : {B : Type 0} (s : HashStore D) (lent : D) (h : StaticHead) → IsWhole (HashStands image may_leave past) s → lent ≡ log_disk s.log → h ≡ log_head s.log → (g : StaticHead → List Group → B) (P : D → B → Type 0)
       → ((groups : List Group) → IfSome (image lent) (λ f. IsFile h f groups → P lent (g h groups)))
       → IfSome (option_map (λ f. g (log_head s.log) (groups_in (log_head s.log) f)) (image (log_disk s.log))) (P (log_disk s.log))
   told_by s lent h w at head g P told =
@@ -188,10 +189,10 @@ module _ {D : Type 0} (image : D → Option (List ℕ)) (may_leave : D → List 
       let here = subst (λ (d : D). IfSome (image d) (λ f. IsFile (log_head s.log) f groups → P d (g (log_head s.log) groups))) at
       (subst (λ (k : StaticHead). IfSome (image lent) (λ f. IsFile k f groups → P lent (g k groups))) head (told groups)) in
       mapped (image (log_disk s.log)) (λ f. g (log_head s.log) (groups_in (log_head s.log) f)) (P (log_disk s.log))
-      (told_file (image (log_disk s.log)) (log_head s.log) groups (λ gs. P (log_disk s.log) (g (log_head s.log) gs)) (is_file image may_leave s w.0 w.1 w.2 st) here)
+      (told_file (image (log_disk s.log)) (log_head s.log) groups (λ gs. P (log_disk s.log) (g (log_head s.log) gs)) (is_file image may_leave past s w.0 w.1 w.2 st) here)
 
   -- the same, where it rests on the shelf
-  pub told_with : {B : Type 0} (s : HashStore D) (lent : D) (h : StaticHead) → IsWhole (HashStands image may_leave) s → lent ≡ log_disk s.log → h ≡ log_head s.log → (g : StaticHead → List Group → B) (P : B → Type 0)
+  pub told_with : {B : Type 0} (s : HashStore D) (lent : D) (h : StaticHead) → IsWhole (HashStands image may_leave past) s → lent ≡ log_disk s.log → h ≡ log_head s.log → (g : StaticHead → List Group → B) (P : B → Type 0)
       → ((groups : List Group) → IfSome (image lent) (λ f. IsFile h f groups → IsShelf h groups s.shelf → P (g h groups)))
       → IfSome (option_map (λ f. g (log_head s.log) (groups_in (log_head s.log) f)) (image (log_disk s.log))) P
   told_with s lent h w at head g P told =
@@ -200,7 +201,7 @@ module _ {D : Type 0} (image : D → Option (List ℕ)) (may_leave : D → List 
       let here = subst (λ (d : D). IfSome (image d) (λ f. IsFile (log_head s.log) f groups → IsShelf (log_head s.log) groups s.shelf → P (g (log_head s.log) groups))) at
       (subst (λ (k : StaticHead). IfSome (image lent) (λ f. IsFile k f groups → IsShelf k groups s.shelf → P (g k groups))) head (told groups)) in
       mapped (image (log_disk s.log)) (λ f. g (log_head s.log) (groups_in (log_head s.log) f)) P
-      (told_file (image (log_disk s.log)) (log_head s.log) groups (λ gs. P (g (log_head s.log) gs)) (is_file image may_leave s w.0 w.1 w.2 st)
+      (told_file (image (log_disk s.log)) (log_head s.log) groups (λ gs. P (g (log_head s.log) gs)) (is_file image may_leave past s w.0 w.1 w.2 st)
       (shelf_given (image (log_disk s.log)) (λ f. IsFile (log_head s.log) f groups) _ _ here st.shelf))
 
   pub shelf_at : (s : HashStore D) (o : Option Shelf) (lent : D) (h : StaticHead) → lent ≡ log_disk s.log → h ≡ log_head s.log → ((groups : List Group) → IfSome (image lent) (λ f. IsFile h f groups → IsShelf h groups s.shelf → IsShelf h groups o)) → KeepsShelf image s o
@@ -208,30 +209,30 @@ module _ {D : Type 0} (image : D → Option (List ℕ)) (may_leave : D → List 
       subst (λ (d : D). IfSome (image d) (λ f. IsFile (log_head s.log) f groups → IsShelf (log_head s.log) groups s.shelf → IsShelf (log_head s.log) groups o)) at
       (subst (λ (k : StaticHead). IfSome (image lent) (λ f. IsFile k f groups → IsShelf k groups s.shelf → IsShelf k groups o)) head (told groups))
 
-  pub counted : (s : HashStore D) → IsWhole (HashStands image may_leave) s → IfSome (map_in image s) (λ m. s.count ≡ length m)
+  pub counted : (s : HashStore D) → IsWhole (HashStands image may_leave past) s → IfSome (map_in image s) (λ m. s.count ≡ length m)
   counted s w =
       let st = w.3 in
       mapped (image (log_disk s.log)) (λ f. replay Hash (groups_in (log_head s.log) f) []) (λ m. s.count ≡ length m)
-      (told_file (image (log_disk s.log)) (log_head s.log) (st.groups ++ w.1) (λ gs. s.count ≡ length (replay Hash gs [])) (is_file image may_leave s w.0 w.1 w.2 st)
+      (told_file (image (log_disk s.log)) (log_head s.log) (st.groups ++ w.1) (λ gs. s.count ≡ length (replay Hash gs [])) (is_file image may_leave past s w.0 w.1 w.2 st)
       (IfSome_then (image (log_disk s.log)) st.count (λ f count file. count)))
 
-  module _ (moment : D → ℕ) (left_since : D → ℕ → List ℕ → Type 0) where
-    pub still_at : (lent old new : D) → lent ≡ old → OnlyReads may_leave moment left_since lent new → OnlyReads may_leave moment left_since old new
-    still_at lent old new at still = subst (λ (d : D). OnlyReads may_leave moment left_since d new) at still
+  module _ (moment : D → ℕ) (left_since : D → ℕ → List ℕ → Type 0) (left_with : D → ℕ → Past × List ℕ → Type 0) where
+    pub still_at : (lent old new : D) → lent ≡ old → OnlyReads may_leave moment left_since past left_with lent new → OnlyReads may_leave moment left_since past left_with old new
+    still_at lent old new at still = subst (λ (d : D). OnlyReads may_leave moment left_since past left_with d new) at still
 
-    pub still_on : (lent old new last : D) → lent ≡ old → last ≡ new → OnlyReads may_leave moment left_since lent new → OnlyReads may_leave moment left_since old last
-    still_on lent old new last at same still = subst (λ (d : D). OnlyReads may_leave moment left_since old d) (sym same) (still_at lent old new at still)
+    pub still_on : (lent old new last : D) → lent ≡ old → last ≡ new → OnlyReads may_leave moment left_since past left_with lent new → OnlyReads may_leave moment left_since past left_with old last
+    still_on lent old new last at same still = subst (λ (d : D). OnlyReads may_leave moment left_since past left_with old d) (sym same) (still_at lent old new at still)
 
     -- what is safe stays so where the groups that were synchronised are kept
-    pub safe_on : (s t : HashStore D) (since_when n : ℕ) (first : First) (since : List Group) (hard : ℕ) → HashStood image may_leave moment left_since s since_when n first since hard → log_head t.log ≡ log_head s.log → t.writable ≡ s.writable
+    pub safe_on : (s t : HashStore D) (since_when n : ℕ) (first : First) (since : List Group) (hard : ℕ) → HashStood image may_leave past moment left_since left_with s since_when n first since hard → log_head t.log ≡ log_head s.log → t.writable ≡ s.writable
         → is_some (image (log_disk t.log)) ≡ is_some (image (log_disk s.log)) → KeepsGroups may_leave moment left_since (log_head s.log) (groups_held first.held ++ take hard since) (log_disk s.log) (log_disk t.log)
-        → HashSafe image left_since t since_when first since n
+        → HashSafe image left_since left_with t since_when first since n
     safe_on s t since_when n first since hard stood head writable told keeps =
         let st = stood.stands in
         let h : StaticHead = log_head s.log in
         let kept : t.writable ≡ true → IfSome (image (log_disk t.log)) (λ f. (c : List ℕ) → left_since (log_disk t.log) since_when c → IsKept h (groups_held first.held ++ take n since) c) = λ may.
         let can : s.writable ≡ true = sym writable ∙ may in
-        carried_both (image (log_disk s.log)) (image (log_disk t.log)) told (stood.safe.kept can) (kept_held image may_leave s first since hard st can)
+        carried_both (image (log_disk s.log)) (image (log_disk t.log)) told (stood.safe.kept can) (kept_held image may_leave past s first since hard st can)
         (λ past kept c left. elim (keeps.since kept since_when c stood.before left) [ inl was ↦ past c was | inr is ↦ kept_front h (groups_held first.held) since n hard c stood.least st.synced is ]) in
         record {
           within = stood.safe.within;
@@ -240,25 +241,25 @@ module _ {D : Type 0} (image : D → Option (List ℕ)) (may_leave : D → List 
         }
 
     -- what stood does so on, where what it stands for now is known
-    pub stood_as : (s t : HashStore D) (since_when n : ℕ) (first : First) (since more : List Group) (hard now : ℕ) → HashStood image may_leave moment left_since s since_when n first since hard → HashStands image may_leave t first (since ++ more) now → hard ≤ now
+    pub stood_as : (s t : HashStore D) (since_when n : ℕ) (first : First) (since more : List Group) (hard now : ℕ) → HashStood image may_leave past moment left_since left_with s since_when n first since hard → HashStands image may_leave past t first (since ++ more) now → hard ≤ now
         → log_head t.log ≡ log_head s.log → t.writable ≡ s.writable → is_some (image (log_disk t.log)) ≡ is_some (image (log_disk s.log)) → KeepsGroups may_leave moment left_since (log_head s.log) (groups_held first.held ++ take hard since) (log_disk s.log) (log_disk t.log)
-        → HashStood image may_leave moment left_since t since_when n first (since ++ more) now
+        → HashStood image may_leave past moment left_since left_with t since_when n first (since ++ more) now
     stood_as s t since_when n first since more hard now st stands le head writable told keeps = record {
       stands = stands;
-      safe = hash_safe_less image left_since t since_when first since more n n (omega arith) (safe_on s t since_when n first since hard st head writable told keeps);
+      safe = hash_safe_less image left_since left_with t since_when first since more n n (omega arith) (safe_on s t since_when n first since hard st head writable told keeps);
       least = omega (arith, st.least, le);
       before = omega (arith, st.before, keeps.later);
     }
 
-    pub safe_as : (s t : HashStore D) (since_when n : ℕ) (first : First) (since more : List Group) (hard : ℕ) → HashStood image may_leave moment left_since s since_when n first since hard
+    pub safe_as : (s t : HashStore D) (since_when n : ℕ) (first : First) (since more : List Group) (hard : ℕ) → HashStood image may_leave past moment left_since left_with s since_when n first since hard
         → log_head t.log ≡ log_head s.log → t.writable ≡ s.writable → is_some (image (log_disk t.log)) ≡ is_some (image (log_disk s.log)) → KeepsGroups may_leave moment left_since (log_head s.log) (groups_held first.held ++ take hard since) (log_disk s.log) (log_disk t.log)
-        → HashSafe image left_since t since_when first (since ++ more) n
+        → HashSafe image left_since left_with t since_when first (since ++ more) n
     safe_as s t since_when n first since more hard st head writable told keeps =
-        hash_safe_less image left_since t since_when first since more n n (omega arith) (safe_on s t since_when n first since hard st head writable told keeps)
+        hash_safe_less image left_since left_with t since_when first since more n n (omega arith) (safe_on s t since_when n first since hard st head writable told keeps)
 
-    pub stood_kept : (s t : HashStore D) (since_when n : ℕ) (first : First) (since : List Group) (hard now : ℕ) → HashStood image may_leave moment left_since s since_when n first since hard → HashStands image may_leave t first since now → hard ≤ now
+    pub stood_kept : (s t : HashStore D) (since_when n : ℕ) (first : First) (since : List Group) (hard now : ℕ) → HashStood image may_leave past moment left_since left_with s since_when n first since hard → HashStands image may_leave past t first since now → hard ≤ now
         → log_head t.log ≡ log_head s.log → t.writable ≡ s.writable → is_some (image (log_disk t.log)) ≡ is_some (image (log_disk s.log)) → KeepsGroups may_leave moment left_since (log_head s.log) (groups_held first.held ++ take hard since) (log_disk s.log) (log_disk t.log)
-        → HashStood image may_leave moment left_since t since_when n first since now
+        → HashStood image may_leave past moment left_since left_with t since_when n first since now
     stood_kept s t since_when n first since hard now st stands le head writable told keeps = record {
       stands = stands;
       safe = safe_on s t since_when n first since hard st head writable told keeps;
@@ -266,8 +267,8 @@ module _ {D : Type 0} (image : D → Option (List ℕ)) (may_leave : D → List 
       before = omega (arith, st.before, keeps.later);
     }
 
-    pub stood_on : (s t : HashStore D) (since_when n : ℕ) (first : First) (since : List Group) (hard : ℕ) → SameFile image s t → KeepsShelf image s t.shelf → OnlyReads may_leave moment left_since (log_disk s.log) (log_disk t.log)
-        → HashStood image may_leave moment left_since s since_when n first since hard → HashStood image may_leave moment left_since t since_when n first since hard
+    pub stood_on : (s t : HashStore D) (since_when n : ℕ) (first : First) (since : List Group) (hard : ℕ) → SameFile image s t → KeepsShelf image s t.shelf → OnlyReads may_leave moment left_since past left_with (log_disk s.log) (log_disk t.log)
+        → HashStood image may_leave past moment left_since left_with s since_when n first since hard → HashStood image may_leave past moment left_since left_with t since_when n first since hard
     stood_on s t since_when n first since hard same shelf still st = record {
       stands = read_on s t first since hard same shelf still.crash st.stands;
       safe = safe_on s t since_when n first since hard st same.head same.writable (ap is_some same.bytes) (keeps_read may_leave moment left_since (log_head s.log) (groups_held first.held ++ take hard since) (log_disk s.log) (log_disk t.log) still);

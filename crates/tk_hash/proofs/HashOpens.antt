@@ -7,6 +7,7 @@ use Rattle.std.proofs.Math.Nat.{mod-eq_of_lt}
 use Rattle.std.proofs.Math.Pow.{pow_mono}
 use Rattle.std.proofs.lemmas.List.{append-nil, length-replicate, get_or-replicate}
 use Rattle.std.proofs.lemmas.Option.{IfSome_then}
+use Rattle.tk_disk.specs.Past.{Past}
 use Rattle.tk_disk.specs.Crash.{Only}
 use Rattle.tk_model.specs.declared.record.ShardOf.{ShardOf}
 use Rattle.tk_model.specs.declared.record.Group.{Group}
@@ -63,7 +64,7 @@ written_there None old h size is told written = tt
 written_there (Some f) None h size is told written = absurd (cc)
 written_there (Some f) (Some g) h size is told written = let same : f ≡ closed_text h [] 0 = cc in same ∙ sym (closed_is h [] size 0 0 is refl)
 
-module _ {D : Type 0} (image : D → Option (List ℕ)) (may_leave : D → List ℕ → Type 0) where
+module _ {D : Type 0} (image : D → Option (List ℕ)) (may_leave : D → List ℕ → Type 0) (past : D → Past) where
   pub closed_header : (log : GroupLog D) (c : Closing) (heads : List ℕ) (groups : List Group) → IsClosedLog image log c heads groups → IfSome (image (log_disk log)) (λ f. 64 ≤ length f)
   closed_header log c heads groups is = IfSome_then (image (log_disk log)) is.text
       (λ f there. omega (arith, ap length there, length-text_of (log_head log) c groups, end_behind (base_of (log_head log).p) (bodies_of groups)))
@@ -84,7 +85,7 @@ module _ {D : Type 0} (image : D → Option (List ℕ)) (may_leave : D → List 
       (subst (λ (x : Option (List ℕ)). IfSome x (λ f. f ≡ text_of (log_head log) closing groups)) (sym (o.read_bytes refl)) is.text)
 
   pub opened : (s : HashStore D) (log : GroupLog D) (closing : Closing) (heads : List ℕ) (groups : List Group) → IsClosedLog image log closing heads groups → IsOpened s.writable log s.log closing s.closing → log_head s.log ≡ log_head log → log_end s.log ≡ log_end log
-      → s.count ≡ closing.count → s.next ≡ closing.next → s.last ≡ None → s.heads.items ≡ heads → 131072 ≤ length s.buffer.items → s.shelf ≡ None → HashStands image may_leave s (opening groups) [] 0
+      → s.count ≡ closing.count → s.next ≡ closing.next → s.last ≡ None → s.heads.items ≡ heads → 131072 ≤ length s.buffer.items → s.shelf ≡ None → HashStands image may_leave past s (opening groups) [] 0
   opened s log closing heads groups is o head end count next last heads_are buffer shelf =
       let h : StaticHead = log_head log in
       let same : groups ++ [] ≡ groups = append-nil groups in

@@ -36,7 +36,7 @@ module _ {D : Type 0} (may_leave : D → List ℕ → Type 0) (moment : D → �
     since = λ kept t c earlier left. elim (second.since (first.now kept) t c (omega (arith, earlier, first.later)) left) [ inl past ↦ first.since kept t c earlier past | inr is ↦ inr is ];
   }
 
-  pub keeps_read : (old new : D) → OnlyReads may_leave moment left_since old new → Keeps old new
+  pub keeps_read : (old new : D) → OnlyReads may_leave moment left_since past left_with old new → Keeps old new
   keeps_read old new still = record {
     later = still.time.later;
     now = λ kept c left. kept c (still.crash c left);

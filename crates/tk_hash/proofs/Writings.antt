@@ -2,6 +2,7 @@
 use Rattle.std.proofs.Common.{◌≡◌, ℕ, ◌+◌, ◌*◌, ◌≤◌, ◌^◌, List, ◌∙◌, arith}
 use Rattle.std.specs.Prelude.{Option}
 use Rattle.std.specs.Option.{is_some}
+use Rattle.tk_disk.specs.Past.{Past}
 use Rattle.tk_disk.specs.Crash.{Torn, Follows, LeavesOnly}
 use Rattle.tk_disk.proofs.Moments.{torn_more, follows_more, leaves_weaker, leaves_joined}
 use Rattle.tk_block.specs.Text.{base_of}
@@ -10,13 +11,13 @@ use Rattle.tk_append.specs.LogParts.{log_disk, log_head, log_end}
 use Rattle.tk_hash.specs.Plan.{Puts}
 
 -- some heads more are written
-pub puts_more : {D : Type 0} (image : D → Option (List ℕ)) (may_leave : D → List ℕ → Type 0) (moment : D → ℕ) (left_since : D → ℕ → List ℕ → Type 0) (taken : D → ℕ) (old mid new : GroupLog D) (b n : ℕ)
-    → 64 + 8 * b + n ≤ base_of (log_head old).p → Puts image may_leave moment left_since taken old mid
+pub puts_more : {D : Type 0} (image : D → Option (List ℕ)) (may_leave : D → List ℕ → Type 0) (past : D → Past) (moment : D → ℕ) (left_since : D → ℕ → List ℕ → Type 0) (left_with : D → ℕ → Past × List ℕ → Type 0) (taken : D → ℕ) (old mid new : GroupLog D) (b n : ℕ)
+    → 64 + 8 * b + n ≤ base_of (log_head old).p → Puts image may_leave past moment left_since left_with taken old mid
     → log_head new ≡ log_head mid → log_end new ≡ log_end mid → is_some (image (log_disk new)) ≡ is_some (image (log_disk mid)) → taken (log_disk new) ≡ taken (log_disk mid)
     → Follows (Torn (64 + 8 * b) n) (may_leave (log_disk mid)) (may_leave (log_disk new))
     → LeavesOnly moment left_since (log_disk mid) (log_disk new) (λ c. (d : List ℕ) × may_leave (log_disk mid) d × Torn (64 + 8 * b) n d c)
-    → Puts image may_leave moment left_since taken old new
-puts_more image may_leave moment left_since taken old mid new b n within puts head end told taken_same crash time = record {
+    → Puts image may_leave past moment left_since left_with taken old new
+puts_more image may_leave past moment left_since left_with taken old mid new b n within puts head end told taken_same crash time = record {
   head = head ∙ puts.head;
   end = end ∙ puts.end;
   told = told ∙ puts.told;

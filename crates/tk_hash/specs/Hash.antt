@@ -1,6 +1,7 @@
 -- A hash file as a store.
 use Rattle.std.specs.Prelude.{◌≡◌, ◌≢◌, ◌⊎◌, ℕ, ◌+◌, ◌<◌, ◌≤◌, ◌^◌, ◌==◌, ◌&&◌, if◌then◌else◌, min, true, false, List, [], ◌++◌, length, take, MatchOption, Option, Some, None, IfSome}
 use Rattle.std.specs.Option.{option_map}
+use Rattle.tk_disk.specs.Past.{Past}
 use Rattle.tk_disk.specs.Crash.{OnlyReads}
 use Rattle.tk_model.specs.Records.{after, replay, AllFit, IsClearAlone}
 use Rattle.tk_model.specs.declared.record.Order.TheVariants.{Hash}
@@ -75,9 +76,9 @@ module _ {D : Type 0} where
   hash_disk s = log_disk s.log
 
   -- from one state to another the file was read at most
-  pub record HashUntouched (image : D → Option (List ℕ)) (may_leave : D → List ℕ → Type 0) (moment : D → ℕ) (left_since : D → ℕ → List ℕ → Type 0) (old new : HashStore D) : Type 0 where
+  pub record HashUntouched (image : D → Option (List ℕ)) (may_leave : D → List ℕ → Type 0) (past : D → Past) (moment : D → ℕ) (left_since : D → ℕ → List ℕ → Type 0) (left_with : D → ℕ → Past × List ℕ → Type 0) (old new : HashStore D) : Type 0 where
     pub same : image (hash_disk new) ≡ image (hash_disk old)
-    pub still : OnlyReads may_leave moment left_since (hash_disk old) (hash_disk new)
+    pub still : OnlyReads may_leave moment left_since past left_with (hash_disk old) (hash_disk new)
 
   abbrev pub hash_head : HashStore D → StaticHead
   hash_head s = log_head s.log
@@ -125,7 +126,7 @@ module _ {D : Type 0} where
     pub may : s.writable ≡ false → cs ≡ []
     pub staged : MatchOption s.staged (cs ≡ []) (IsStaged image s cs)
 
-  pub record HashStands (image : D → Option (List ℕ)) (may_leave : D → List ℕ → Type 0) (s : HashStore D) (first : First) (since : List Group) (hard : ℕ) : Type 0 where
+  pub record HashStands (image : D → Option (List ℕ)) (may_leave : D → List ℕ → Type 0) (past : D → Past) (s : HashStore D) (first : First) (since : List Group) (hard : ℕ) : Type 0 where
     pub groups : List Group
     pub held : first.held ≡ Groups groups
     pub records_first : first.records ≡ replay Hash groups []
@@ -153,7 +154,7 @@ module _ {D : Type 0} where
 
   -- Of a file that was opened for writing: whatever is written later, an untorn image since the time restores to the groups
   -- of the opening and a front of those since, at least n of them.
-  pub record HashSafe (image : D → Option (List ℕ)) (left_since : D → ℕ → List ℕ → Type 0) (s : HashStore D) (t : ℕ) (first : First) (since : List Group) (n : ℕ) : Type 0 where
+  pub record HashSafe (image : D → Option (List ℕ)) (left_since : D → ℕ → List ℕ → Type 0) (left_with : D → ℕ → Past × List ℕ → Type 0) (s : HashStore D) (t : ℕ) (first : First) (since : List Group) (n : ℕ) : Type 0 where
     pub within : n ≤ length since
     pub each : s.writable ≡ true → IfSome (image (log_disk s.log)) (λ f. (c : List ℕ) (more : List Group) → left_since (log_disk s.log) t c
         → AreGroups 0 (2 ^ 64) (groups_held first.held ++ (since ++ more)) → IsUntorn (log_head s.log) (groups_held first.held ++ (since ++ more)) c
@@ -161,8 +162,8 @@ module _ {D : Type 0} where
     -- each image since the time, untorn or not, has the header and the blocks of the groups of the opening and of the first n since
     pub kept : s.writable ≡ true → IfSome (image (log_disk s.log)) (λ f. (c : List ℕ) → left_since (log_disk s.log) t c → IsKept (log_head s.log) (groups_held first.held ++ take n since) c)
 
-  pub record HashStood (image : D → Option (List ℕ)) (may_leave : D → List ℕ → Type 0) (moment : D → ℕ) (left_since : D → ℕ → List ℕ → Type 0) (s : HashStore D) (t n : ℕ) (first : First) (since : List Group) (hard : ℕ) : Type 0 where
-    pub stands : HashStands image may_leave s first since hard
-    pub safe : HashSafe image left_since s t first since n
+  pub record HashStood (image : D → Option (List ℕ)) (may_leave : D → List ℕ → Type 0) (past : D → Past) (moment : D → ℕ) (left_since : D → ℕ → List ℕ → Type 0) (left_with : D → ℕ → Past × List ℕ → Type 0) (s : HashStore D) (t n : ℕ) (first : First) (since : List Group) (hard : ℕ) : Type 0 where
+    pub stands : HashStands image may_leave past s first since hard
+    pub safe : HashSafe image left_since left_with s t first since n
     pub least : n ≤ hard
     pub before : t ≤ moment (log_disk s.log)

@@ -27,6 +27,7 @@ use Rattle.tk_append.specs.Restored.{groups_in, groups_text, IsUntorn, IsKept}
 use Rattle.tk_append.proofs.Groupings.{groups_upto}
 use Rattle.tk_append.proofs.Restoring.{reads_back, restores, kept_less}
 use Rattle.tk_hash.specs.declared.store.HashStore.{HashStore}
+use Rattle.tk_disk.specs.Past.{Past}
 use Rattle.tk_disk.proofs.Moments.{nothing_read, reads_joined}
 use Rattle.tk_hash.specs.Hash.{hash_disk, HashUntouched, ended_with, groups_held, floor_of, RestoresTo, hash_nature, hash_shown, map_in, HashStands, HashSafe, HashStood}
 
@@ -127,8 +128,8 @@ less_each o left h first since more m n le each = IfSome_then o each (λ f each 
     (weaker first (since ++ (more ++ rest)) m n c le (each c (more ++ rest) l (subst (λ (l : List Group). AreGroups 0 (2 ^ 64) (first ++ l)) joined legal) (subst (λ (l : List Group). IsUntorn h (first ++ l) c) joined u))))
 
 module _ {D : Type 0} (image : D → Option (List ℕ)) where
-  module _ (may_leave : D → List ℕ → Type 0) where
-    module _ (s : HashStore D) (first : First) (since : List Group) (hard : ℕ) (st : HashStands image may_leave s first since hard) where
+  module _ (may_leave : D → List ℕ → Type 0) (past : D → Past) where
+    module _ (s : HashStore D) (first : First) (since : List Group) (hard : ℕ) (st : HashStands image may_leave past s first since hard) where
       pub all_legal : AreGroups 0 (floor_of s.next s.last) (st.groups ++ since)
       all_legal = groups_joined 0 s.next (floor_of s.next s.last) st.groups since st.legal st.later
 
@@ -141,20 +142,20 @@ module _ {D : Type 0} (image : D → Option (List ℕ)) where
       pub kept_held : s.writable ≡ true → IfSome (image (log_disk s.log)) (λ f. (c : List ℕ) → may_leave (log_disk s.log) c → IsKept (log_head s.log) (groups_held first.held ++ take hard since) c)
       kept_held may = subst (λ (gs : List Group). IfSome (image (log_disk s.log)) (λ f. (c : List ℕ) → may_leave (log_disk s.log) c → IsKept (log_head s.log) (gs ++ take hard since) c)) (sym (ap groups_held st.held)) (st.kept may)
 
-    pub hash_replays : (s : HashStore D) (first : First) (since : List Group) (hard : ℕ) → HashStands image may_leave s first since hard → IfSome (map_in image s) (λ m. m ≡ replay Hash since first.records)
+    pub hash_replays : (s : HashStore D) (first : First) (since : List Group) (hard : ℕ) → HashStands image may_leave past s first since hard → IfSome (map_in image s) (λ m. m ≡ replay Hash since first.records)
     hash_replays s first since hard st = mapped (image (log_disk s.log)) (λ f. replay Hash (groups_in (log_head s.log) f) []) (λ m. m ≡ replay Hash since first.records)
         (IfSome_then (image (log_disk s.log)) (is_file s first since hard st) (λ f file. ap (λ (gs : List Group). replay Hash gs []) (reads_back (log_head s.log) f (st.groups ++ since) file) ∙ records_are s first since hard st))
 
-    pub hash_rising : (s : HashStore D) (first : First) (since : List Group) (hard : ℕ) → HashStands image may_leave s first since hard → Rising Hash first.records
+    pub hash_rising : (s : HashStore D) (first : First) (since : List Group) (hard : ℕ) → HashStands image may_leave past s first since hard → Rising Hash first.records
     hash_rising s first since hard st = subst (λ (m : List Pair). Rising Hash m) (sym st.records_first) (replay_rising Hash st.groups [] tt)
 
-    pub hash_held : (s : HashStore D) (first : First) (since : List Group) (hard : ℕ) → HashStands image may_leave s first since hard → IfSome (map_in image s) AllHeld
+    pub hash_held : (s : HashStore D) (first : First) (since : List Group) (hard : ℕ) → HashStands image may_leave past s first since hard → IfSome (map_in image s) AllHeld
     hash_held s first since hard st = IfSome_then (map_in image s) (hash_replays s first since hard st)
         (λ m is. subst AllHeld (sym (is ∙ sym (records_are s first since hard st))) (replay_held Hash 0 (floor_of s.next s.last) (st.groups ++ since) [] (all_legal s first since hard st) tt))
 
-    module _ (moment : D → ℕ) (left_since : D → ℕ → List ℕ → Type 0) where
-      pub hash_stood_now : ((d : D) (c : List ℕ) → left_since d (moment d) c → may_leave d c) → (s : HashStore D) (first : First) (since : List Group) (hard : ℕ) → HashStands image may_leave s first since hard
-          → HashStood image may_leave moment left_since s (moment (log_disk s.log)) hard first since hard
+    module _ (moment : D → ℕ) (left_since : D → ℕ → List ℕ → Type 0) (left_with : D → ℕ → Past × List ℕ → Type 0) where
+      pub hash_stood_now : ((d : D) (c : List ℕ) → left_since d (moment d) c → may_leave d c) → (s : HashStore D) (first : First) (since : List Group) (hard : ℕ) → HashStands image may_leave past s first since hard
+          → HashStood image may_leave past moment left_since left_with s (moment (log_disk s.log)) hard first since hard
       hash_stood_now only s first since hard st =
           let kept : s.writable ≡ true → IfSome (image (log_disk s.log)) (λ f. (c : List ℕ) → left_since (log_disk s.log) (moment (log_disk s.log)) c → IsKept (log_head s.log) (groups_held first.held ++ take hard since) c) = λ may.
           IfSome_then (image (log_disk s.log)) (kept_held s first since hard st may) (λ f kept c left. kept c (only (log_disk s.log) c left)) in
@@ -169,19 +170,19 @@ module _ {D : Type 0} (image : D → Option (List ℕ)) where
             before = omega arith;
           }
 
-  module _ (left_since : D → ℕ → List ℕ → Type 0) where
-    pub hash_safe_less : (s : HashStore D) (t : ℕ) (first : First) (since more : List Group) (m n : ℕ) → m ≤ n → HashSafe image left_since s t first since n → HashSafe image left_since s t first (since ++ more) m
+  module _ (left_since : D → ℕ → List ℕ → Type 0) (left_with : D → ℕ → Past × List ℕ → Type 0) where
+    pub hash_safe_less : (s : HashStore D) (t : ℕ) (first : First) (since more : List Group) (m n : ℕ) → m ≤ n → HashSafe image left_since left_with s t first since n → HashSafe image left_since left_with s t first (since ++ more) m
     hash_safe_less s t first since more m n le safe = record {
       within = omega (arith, le, safe.within, length-append since more);
       each = λ may. less_each (image (log_disk s.log)) (left_since (log_disk s.log) t) (log_head s.log) (groups_held first.held) since more m n le (safe.each may);
       kept = λ may. less_kept (image (log_disk s.log)) (left_since (log_disk s.log) t) (log_head s.log) (groups_held first.held) since more m n le safe.within (safe.kept may);
     }
 
-    pub hash_same_safe : (s : HashStore D) (t : ℕ) (first : First) (since : List Group) (m n : ℕ) → m ≤ n → HashSafe image left_since s t first since n → HashSafe image left_since s t first since m
-    hash_same_safe s t first since m n le safe = subst (λ (l : List Group). HashSafe image left_since s t first l m) (append-nil since) (hash_safe_less s t first since [] m n le safe)
+    pub hash_same_safe : (s : HashStore D) (t : ℕ) (first : First) (since : List Group) (m n : ℕ) → m ≤ n → HashSafe image left_since left_with s t first since n → HashSafe image left_since left_with s t first since m
+    hash_same_safe s t first since m n le safe = subst (λ (l : List Group). HashSafe image left_since left_with s t first l m) (append-nil since) (hash_safe_less s t first since [] m n le safe)
 
-    pub hash_stood_less : (may_leave : D → List ℕ → Type 0) (moment : D → ℕ) (s : HashStore D) (t m n : ℕ) (first : First) (since : List Group) (hard : ℕ) → m ≤ n → HashStood image may_leave moment left_since s t n first since hard
-        → HashStood image may_leave moment left_since s t m first since hard
+    pub hash_stood_less : (may_leave : D → List ℕ → Type 0) (past : D → Past) (moment : D → ℕ) (s : HashStore D) (t m n : ℕ) (first : First) (since : List Group) (hard : ℕ) → m ≤ n → HashStood image may_leave past moment left_since left_with s t n first since hard
+        → HashStood image may_leave past moment left_since left_with s t m first since hard
     hash_stood_less may_leave moment s t m n first since hard le st = record {
       stands = st.stands;
       safe = hash_same_safe s t first since m n le st.safe;
@@ -204,7 +205,7 @@ module _ {D : Type 0} (image : D → Option (List ℕ)) where
   sized false m n is = cc
 
   -- a store that was ended with a number has it in the closing part that stands in the file
-  pub hash_ended : (may_leave : D → List ℕ → Type 0) (s : HashStore D) (first : First) (since : List Group) (hard n : ℕ) → HashStands image may_leave s first since hard → (hash_shown image s).ended ≡ Some n
+  pub hash_ended : (may_leave : D → List ℕ → Type 0) (past : D → Past) (s : HashStore D) (first : First) (since : List Group) (hard n : ℕ) → HashStands image may_leave past s first since hard → (hash_shown image s).ended ≡ Some n
       → IfSome (image (hash_disk s)) (λ f. (c : Closing) × (c.next ≡ n) × (f ≡ text_of (log_head s.log) c (groups_held first.held ++ since)))
   hash_ended may_leave s first since hard n st ended =
       let next : s.closing.next ≡ n = sized (s.closing.size == 0) s.closing.next n (chosen (s.closed && s.writable) (ended_with s.closing) n ended) in
@@ -213,13 +214,13 @@ module _ {D : Type 0} (image : D → Option (List ℕ)) where
 pub hash_values : {D : Type 0} (s : HashStore D) → (16777215 ≤ (hash_nature s).longest_value) × ((hash_nature s).longest_value ≤ 33554431)
 hash_values s = (omega arith, omega arith)
 
-module _ {D : Type 0} (image : D → Option (List ℕ)) (may_leave : D → List ℕ → Type 0) (moment : D → ℕ) (left_since : D → ℕ → List ℕ → Type 0) where
-  pub hash_untouched_same : (s : HashStore D) → HashUntouched image may_leave moment left_since s s
-  hash_untouched_same s = record { same = refl; still = nothing_read may_leave moment left_since (hash_disk s) }
+module _ {D : Type 0} (image : D → Option (List ℕ)) (may_leave : D → List ℕ → Type 0) (past : D → Past) (moment : D → ℕ) (left_since : D → ℕ → List ℕ → Type 0) (left_with : D → ℕ → Past × List ℕ → Type 0) where
+  pub hash_untouched_same : (s : HashStore D) → HashUntouched image may_leave past moment left_since left_with s s
+  hash_untouched_same s = record { same = refl; still = nothing_read may_leave moment left_since past left_with (hash_disk s) }
 
   pub hash_untouched_then : ((disk : D) (t : ℕ) (c : List ℕ) → t ≤ moment disk → may_leave disk c → left_since disk t c) → (a b c : HashStore D)
-      → HashUntouched image may_leave moment left_since a b → HashUntouched image may_leave moment left_since b c → HashUntouched image may_leave moment left_since a c
+      → HashUntouched image may_leave past moment left_since left_with a b → HashUntouched image may_leave past moment left_since left_with b c → HashUntouched image may_leave past moment left_since left_with a c
   hash_untouched_then counts_now a b c first second = record {
     same = second.same ∙ first.same;
-    still = reads_joined may_leave moment left_since counts_now (hash_disk a) (hash_disk b) (hash_disk c) first.still second.still;
+    still = reads_joined may_leave moment left_since past left_with counts_now (hash_disk a) (hash_disk b) (hash_disk c) first.still second.still;
   }

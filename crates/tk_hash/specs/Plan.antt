@@ -10,6 +10,7 @@ use Rattle.tk_model.specs.declared.record.Change.{Change}
 use Rattle.tk_model.specs.declared.record.Change.TheVariants as changes
 use Rattle.tk_model.specs.Records.{put}
 use Rattle.tk_block.specs.Blocks.{is_nil}
+use Rattle.tk_disk.specs.Past.{Past}
 use Rattle.tk_disk.specs.Crash.{Torn, Follows, LeavesOnly}
 use Rattle.tk_append.specs.declared.log.GroupLog.{GroupLog}
 use Rattle.tk_append.specs.LogParts.{log_disk, log_head, log_end}
@@ -36,7 +37,7 @@ FitHeads number Cleared = Unit {0}
 FitHeads number (Renewed ns) = AllBelow number ns.items
 
 -- what writes of heads leave as it was, and what a crash may leave: what it did before, but for the heads
-pub record Puts {D : Type 0} (image : D → Option (List ℕ)) (may_leave : D → List ℕ → Type 0) (moment : D → ℕ) (left_since : D → ℕ → List ℕ → Type 0) (taken : D → ℕ) (old new : GroupLog D) : Type 0 where
+pub record Puts {D : Type 0} (image : D → Option (List ℕ)) (may_leave : D → List ℕ → Type 0) (past : D → Past) (moment : D → ℕ) (left_since : D → ℕ → List ℕ → Type 0) (left_with : D → ℕ → Past × List ℕ → Type 0) (taken : D → ℕ) (old new : GroupLog D) : Type 0 where
   pub head : log_head new ≡ log_head old
   pub end : log_end new ≡ log_end old
   pub told : is_some (image (log_disk new)) ≡ is_some (image (log_disk old))

@@ -64,7 +64,7 @@ fn was_there<D: Disk>(
         → IfOk result (λ there. there ≡ told_there (find key.now marks.now) (is_some (find key.now (replay Hash groups []))))) }
     ensures buffer { length buffer.new ≡ length buffer.old }
     ensures image { D.image disk.new ≡ D.image disk.old }
-    ensures still { OnlyReads D.may_leave D.moment D.left_since disk.old disk.new }
+    ensures still { OnlyReads D.may_leave D.moment D.left_since D.past D.left_with disk.old disk.new }
     ensures taken { D.taken_count disk.old ≤ D.taken_count disk.new }
     ensures cause { HasCause (D.fault_count disk.old) (D.fault_count disk.new) result }
     ensures never { NeverFull result }
@@ -116,7 +116,7 @@ pub(crate) fn count_changes<D: Disk>(
         → IfOk result (λ n. n ≡ length (after Hash changes.now (replay Hash groups [])))) }
     ensures buffer { length buffer.new ≡ length buffer.old }
     ensures image { D.image disk.new ≡ D.image disk.old }
-    ensures still { OnlyReads D.may_leave D.moment D.left_since disk.old disk.new }
+    ensures still { OnlyReads D.may_leave D.moment D.left_since D.past D.left_with disk.old disk.new }
     ensures taken { D.taken_count disk.old ≤ D.taken_count disk.new }
     ensures cause { HasCause (D.fault_count disk.old) (D.fault_count disk.new) result }
     ensures never { NeverFull result }

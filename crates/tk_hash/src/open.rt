@@ -70,7 +70,7 @@ fn begin<D: Disk>(
     ensures head { log_head log.new ≡ log_head log.old }
     ensures end { log_end log.new ≡ log_end log.old }
     ensures reads { writable ≡ false → D.image (log_disk log.new) ≡ D.image (log_disk log.old) }
-    ensures reads_still { writable ≡ false → OnlyReads D.may_leave D.moment D.left_since (log_disk log.old) (log_disk log.new) }
+    ensures reads_still { writable ≡ false → OnlyReads D.may_leave D.moment D.left_since D.past D.left_with (log_disk log.old) (log_disk log.new) }
     ensures same { writable ≡ false → IfOk result (λ c. c ≡ closing) }
     ensures open { writable ≡ true → IfOk result (λ c. c ≡ open_mark) }
     ensures marked { writable ≡ true → OnOk result (D.image (log_disk log.new) ≡ option_map (with_closing open_mark) (D.image (log_disk log.old))) }
@@ -105,21 +105,21 @@ impl<D: Disk> HashStore<D> {
     ) -> Result<HashStore<D>, Unopened<D>>
         requires shard { shard.index < shard.of }
         ensures exact { IfSome (D.image disk) (λ f. Tells result (first_fault (1 ∷ []) writable shard f)) }
-        ensures opened { IfOk result (λ s. (groups : List Group) × HashStands D.image D.may_leave s (opening groups) [] 0
+        ensures opened { IfOk result (λ s. (groups : List Group) × HashStands D.image D.may_leave D.past s (opening groups) [] 0
             × IfSome (D.image disk) (λ f. f ≡ closed_text (hash_head s) groups (hash_nature s).next)) }
         ensures kind { IfOk result (λ s. (hash_head s).kind ≡ 1) }
         ensures mode { IfOk result (λ s. ((hash_nature s).writable ≡ writable) × ((hash_shown D.image s).closed ≡ false)) }
         ensures limit { IfOk result (λ s. (hash_nature s).limit ≡ min limit (2 ^ 40)) }
         ensures last { IfOk result (λ s. writable ≡ true → (hash_nature s).next ≤ 2 ^ 62) }
         ensures reads { IfOk result (λ s. writable ≡ false → D.image (hash_disk s) ≡ D.image disk) }
-        ensures reads_still { writable ≡ false → IfOk result (λ s. OnlyReads D.may_leave D.moment D.left_since disk (hash_disk s)) }
+        ensures reads_still { writable ≡ false → IfOk result (λ s. OnlyReads D.may_leave D.moment D.left_since D.past D.left_with disk (hash_disk s)) }
         ensures marked { writable ≡ true → IfOk result (λ s. D.image (hash_disk s) ≡ option_map (with_closing open_mark) (D.image disk)) }
         ensures durable { writable ≡ true → IfOk result (λ s. IfSome (D.image (hash_disk s)) (λ f. Only f (D.may_leave (hash_disk s)))) }
         ensures told { IfOk result (λ s. is_some (D.image (hash_disk s)) ≡ is_some (D.image disk)) }
         ensures back { IfErr result (λ u. (u.cause ≡ OpenError.Fault → ⊥) → D.image u.disk ≡ D.image disk) }
         ensures back_reads { writable ≡ false → IfErr result (λ u. D.image u.disk ≡ D.image disk) }
-        ensures back_still { IfErr result (λ u. (u.cause ≡ OpenError.Fault → ⊥) → OnlyReads D.may_leave D.moment D.left_since disk u.disk) }
-        ensures back_reads_still { writable ≡ false → IfErr result (λ u. OnlyReads D.may_leave D.moment D.left_since disk u.disk) }
+        ensures back_still { IfErr result (λ u. (u.cause ≡ OpenError.Fault → ⊥) → OnlyReads D.may_leave D.moment D.left_since D.past D.left_with disk u.disk) }
+        ensures back_reads_still { writable ≡ false → IfErr result (λ u. OnlyReads D.may_leave D.moment D.left_since D.past D.left_with disk u.disk) }
         ensures kept { IfOk result (λ s. D.fault_count (hash_disk s) ≡ D.fault_count disk) }
         ensures fault { IfErr result (λ u. u.cause ≡ OpenError.Fault → Rose (D.fault_count disk) (D.fault_count u.disk)) }
         ensures later { IfErr result (λ u. D.fault_count disk ≤ D.fault_count u.disk) }
@@ -160,7 +160,7 @@ impl<D: Disk> HashStore<D> {
         requires p { p ≤ 24 }
         requires shard { shard.index < shard.of }
         requires empty { IfSome (D.image disk) (λ f. f ≡ []) }
-        ensures opened { IfOk result (λ s. HashStands D.image D.may_leave s (opening []) [] 0) }
+        ensures opened { IfOk result (λ s. HashStands D.image D.may_leave D.past s (opening []) [] 0) }
         ensures head { IfOk result (λ s. hash_head s ≡ record { kind = 1; version = 1; p = p; order = 0; generation = 0 }) }
         ensures mode { IfOk result (λ s. ((hash_nature s).writable ≡ true) × ((hash_shown D.image s).closed ≡ false)) }
         ensures next { IfOk result (λ s. (hash_nature s).next ≡ 0) }
@@ -215,13 +215,13 @@ impl<D: Disk> HashStore<D> {
     ) -> Result<HashStore<D>, Unopened<D>>
         requires buffer { 131072 ≤ length buffer.items }
         requires whole { (groups : List Group) × IsClosedLog D.image log closing heads.items groups }
-        ensures stands { (groups : List Group) → IsClosedLog D.image log closing heads.items groups → IfOk result (λ s. HashStands D.image D.may_leave s (opening groups) [] 0) }
+        ensures stands { (groups : List Group) → IsClosedLog D.image log closing heads.items groups → IfOk result (λ s. HashStands D.image D.may_leave D.past s (opening groups) [] 0) }
         ensures head { IfOk result (λ s. hash_head s ≡ log_head log) }
         ensures mode { IfOk result (λ s. ((hash_nature s).writable ≡ writable) × ((hash_shown D.image s).closed ≡ false)) }
         ensures next { IfOk result (λ s. (hash_nature s).next ≡ closing.next) }
         ensures limit { IfOk result (λ s. (hash_nature s).limit ≡ min limit (2 ^ 40)) }
         ensures reads { IfOk result (λ s. writable ≡ false → D.image (hash_disk s) ≡ D.image (log_disk log)) }
-        ensures reads_still { writable ≡ false → IfOk result (λ s. OnlyReads D.may_leave D.moment D.left_since (log_disk log) (hash_disk s)) }
+        ensures reads_still { writable ≡ false → IfOk result (λ s. OnlyReads D.may_leave D.moment D.left_since D.past D.left_with (log_disk log) (hash_disk s)) }
         ensures marked { writable ≡ true → IfOk result (λ s. D.image (hash_disk s) ≡ option_map (with_closing open_mark) (D.image (log_disk log))) }
         ensures durable { writable ≡ true → IfOk result (λ s. IfSome (D.image (hash_disk s)) (λ f. Only f (D.may_leave (hash_disk s)))) }
         ensures told { IfOk result (λ s. is_some (D.image (hash_disk s)) ≡ is_some (D.image (log_disk log))) }

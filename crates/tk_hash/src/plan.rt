@@ -94,7 +94,7 @@ pub(crate) fn plan_changes<D: Disk>(
     ensures counts { IfOk result (λ plan. length plan.links ≡ length changes.now) }
     ensures buffer { length buffer.new ≡ length buffer.old }
     ensures image { D.image disk.new ≡ D.image disk.old }
-    ensures still { OnlyReads D.may_leave D.moment D.left_since disk.old disk.new }
+    ensures still { OnlyReads D.may_leave D.moment D.left_since D.past D.left_with disk.old disk.new }
     ensures taken { D.taken_count disk.old ≤ D.taken_count disk.new }
     ensures cause { HasCause (D.fault_count disk.old) (D.fault_count disk.new) result }
     ensures never { NeverFull result }
@@ -123,7 +123,7 @@ fn put_renewed<D: Disk>(log: &mut GroupLog<D>, heads: &[NewHead]) -> Result<(), 
     requires there { IfSome (D.image (log_disk log.old)) (λ f. base_of (log_head log.old).p ≤ length f) }
     ensures written { (c : Closing) (old : List ℕ) (groups : List Group) → IfSome (D.image (log_disk log.old)) (λ f. f ≡ text_with (log_head log.old) c old groups → length old ≡ 2 ^ (log_head log.old).p
         → OnOk result (D.image (log_disk log.new) ≡ Some (text_with (log_head log.old) c (with_new heads.now old) groups))) }
-    ensures puts { Puts D.image D.may_leave D.moment D.left_since D.taken_count log.old log.new }
+    ensures puts { Puts D.image D.may_leave D.past D.moment D.left_since D.left_with D.taken_count log.old log.new }
     ensures cause { HasDiskCause (D.fault_count (log_disk log.old)) (D.fault_count (log_disk log.new)) result }
 {
     for head in heads {
@@ -140,7 +140,7 @@ fn put_zeros<D: Disk>(log: &mut GroupLog<D>, zeros: &[u8]) -> Result<(), DiskErr
     requires some { 8 ≤ length zeros.now }
     ensures written { (c : Closing) (old : List ℕ) (groups : List Group) → IfSome (D.image (log_disk log.old)) (λ f. f ≡ text_with (log_head log.old) c old groups → length old ≡ 2 ^ (log_head log.old).p
         → OnOk result (D.image (log_disk log.new) ≡ Some (text_with (log_head log.old) c (replicate (length old) 0) groups))) }
-    ensures puts { Puts D.image D.may_leave D.moment D.left_since D.taken_count log.old log.new }
+    ensures puts { Puts D.image D.may_leave D.past D.moment D.left_since D.left_with D.taken_count log.old log.new }
     ensures cause { HasDiskCause (D.fault_count (log_disk log.old)) (D.fault_count (log_disk log.new)) result }
 {
     let number = number_of_buckets(log.head().p);

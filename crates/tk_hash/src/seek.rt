@@ -52,7 +52,7 @@ fn find_block<D: Disk>(
     ensures found { (xs : List Placed) → IfSome (D.image disk.old) (λ f. IsChained f first xs → IfOk result (Found key.now xs f buffer.new (D.taken_count disk.old) (D.taken_count disk.new))) }
     ensures cost { (xs : List Placed) → IfSome (D.image disk.old) (λ f. IsChained f first xs → D.taken_count disk.new ≤ D.taken_count disk.old + extents xs) }
     ensures image { D.image disk.new ≡ D.image disk.old }
-    ensures still { OnlyReads D.may_leave D.moment D.left_since disk.old disk.new }
+    ensures still { OnlyReads D.may_leave D.moment D.left_since D.past D.left_with disk.old disk.new }
     ensures taken { D.taken_count disk.old ≤ D.taken_count disk.new }
     ensures cause { HasCause (D.fault_count disk.old) (D.fault_count disk.new) result }
     ensures answers { OkOrFault result }
@@ -87,7 +87,7 @@ fn seek_value<D: Disk>(
     ensures value { (groups : List Group) → IfSome (D.image disk.old) (λ f. IsFile head.now f groups → IfOk result (Sought key.now (find key.now (replay Hash groups [])) f buffer.new (D.taken_count disk.old) (D.taken_count disk.new) (cost_in head.now groups key.now))) }
     ensures cost { (groups : List Group) → IfSome (D.image disk.old) (λ f. IsFile head.now f groups → D.taken_count disk.new ≤ D.taken_count disk.old + cost_in head.now groups key.now) }
     ensures image { D.image disk.new ≡ D.image disk.old }
-    ensures still { OnlyReads D.may_leave D.moment D.left_since disk.old disk.new }
+    ensures still { OnlyReads D.may_leave D.moment D.left_since D.past D.left_with disk.old disk.new }
     ensures taken { D.taken_count disk.old ≤ D.taken_count disk.new }
     ensures cause { HasCause (D.fault_count disk.old) (D.fault_count disk.new) result }
     ensures answers { OkOrFault result }
@@ -130,7 +130,7 @@ fn give_value<D: Disk>(
         → IfOk result (λ _. out.new ≡ x.body.value)) }
     ensures cost { D.taken_count disk.new ≤ D.taken_count disk.old + (value.len - (length buffer.now - (40 + key))) }
     ensures image { D.image disk.new ≡ D.image disk.old }
-    ensures still { OnlyReads D.may_leave D.moment D.left_since disk.old disk.new }
+    ensures still { OnlyReads D.may_leave D.moment D.left_since D.past D.left_with disk.old disk.new }
     ensures taken { D.taken_count disk.old ≤ D.taken_count disk.new }
     ensures cause { HasCause (D.fault_count disk.old) (D.fault_count disk.new) result }
     ensures never { NeverFull result }
@@ -165,7 +165,7 @@ pub(crate) fn get_value<D: Disk>(
     ensures cost { (groups : List Group) → IfSome (D.image disk.old) (λ f. IsFile head.now f groups → D.taken_count disk.new ≤ D.taken_count disk.old + cost_in head.now groups key.now) }
     ensures buffer { length buffer.new ≡ length buffer.old }
     ensures image { D.image disk.new ≡ D.image disk.old }
-    ensures still { OnlyReads D.may_leave D.moment D.left_since disk.old disk.new }
+    ensures still { OnlyReads D.may_leave D.moment D.left_since D.past D.left_with disk.old disk.new }
     ensures taken { D.taken_count disk.old ≤ D.taken_count disk.new }
     ensures cause { HasCause (D.fault_count disk.old) (D.fault_count disk.new) result }
     ensures never { NeverFull result }
@@ -193,7 +193,7 @@ pub(crate) fn get_value_into<D: Disk>(
     ensures cost { (groups : List Group) → IfSome (D.image disk.old) (λ f. IsFile head.now f groups → D.taken_count disk.new ≤ D.taken_count disk.old + cost_in head.now groups key.now) }
     ensures buffer { length buffer.new ≡ length buffer.old }
     ensures image { D.image disk.new ≡ D.image disk.old }
-    ensures still { OnlyReads D.may_leave D.moment D.left_since disk.old disk.new }
+    ensures still { OnlyReads D.may_leave D.moment D.left_since D.past D.left_with disk.old disk.new }
     ensures taken { D.taken_count disk.old ≤ D.taken_count disk.new }
     ensures cause { HasCause (D.fault_count disk.old) (D.fault_count disk.new) result }
     ensures never { NeverFull result }
@@ -223,7 +223,7 @@ pub(crate) fn has_key<D: Disk>(
     ensures value { (groups : List Group) → IfSome (D.image disk.old) (λ f. IsFile head.now f groups → IfOk result (λ found. found ≡ is_some (find key.now (replay Hash groups [])))) }
     ensures buffer { length buffer.new ≡ length buffer.old }
     ensures image { D.image disk.new ≡ D.image disk.old }
-    ensures still { OnlyReads D.may_leave D.moment D.left_since disk.old disk.new }
+    ensures still { OnlyReads D.may_leave D.moment D.left_since D.past D.left_with disk.old disk.new }
     ensures taken { D.taken_count disk.old ≤ D.taken_count disk.new }
     ensures cause { HasCause (D.fault_count disk.old) (D.fault_count disk.new) result }
     ensures never { NeverFull result }

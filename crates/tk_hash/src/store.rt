@@ -79,14 +79,14 @@ impl<D: Disk> HashStore<D> {
 
     /// Makes a group of these changes ready.
     fn stage(&mut self, changes: &ChangeList) -> Result<Staged, StoreError>
-        requires whole { IsWhole (HashStands D.image D.may_leave) self.old }
+        requires whole { IsWhole (HashStands D.image D.may_leave D.past) self.old }
         requires some { changes.now ≢ [] }
         requires fit { AllFit changes.now }
         requires alone { IsClearAlone changes.now }
         requires end { (hash_shown D.image self.old).size + sum_by (change_extent 1) changes.now ≤ 2 ^ 40 }
         ensures staged { IfOk result (IsStaged D.image self.new changes.now) }
-        ensures stands { Keeps (HashStands D.image D.may_leave) self.old self.new }
-        ensures since { KeepsSince (HashStood D.image D.may_leave D.moment D.left_since) self.old self.new }
+        ensures stands { Keeps (HashStands D.image D.may_leave D.past) self.old self.new }
+        ensures since { KeepsSince (HashStood D.image D.may_leave D.past D.moment D.left_since D.left_with) self.old self.new }
         ensures nature { hash_nature self.new ≡ hash_nature self.old }
         ensures shown { hash_shown D.image self.new ≡ hash_shown D.image self.old }
         ensures time { D.moment (hash_disk self.old) ≤ D.moment (hash_disk self.new) }
@@ -115,14 +115,14 @@ impl<D: Disk> HashStore<D> {
 
     /// Writes the group that was staged, under this number, and then the heads.
     fn put_staged(&mut self, number: u64, staged: Staged) -> Result<(), StoreError>
-        requires whole { IsWhole (HashStands D.image D.may_leave) self.old }
+        requires whole { IsWhole (HashStands D.image D.may_leave D.past) self.old }
         requires staged { (changes : List Changed) × IsStaged D.image self.old changes staged }
         requires writable { (hash_nature self.old).writable ≡ true }
         requires number { (hash_shown D.image self.old).floor ≤ number }
         ensures stands { (changes : List Changed) → IsStaged D.image self.old changes staged → AllFit changes → IsClearAlone changes
-            → (first : First) (since : List Group) (hard : ℕ) → HashStands D.image D.may_leave self.old first since hard
-            → OnOk result (HashStands D.image D.may_leave self.new first (since ++ record { number = number; changes = changes } ∷ []) hard) }
-        ensures kept { (first : First) (since : List Group) (hard : ℕ) → HashStands D.image D.may_leave self.old first since hard
+            → (first : First) (since : List Group) (hard : ℕ) → HashStands D.image D.may_leave D.past self.old first since hard
+            → OnOk result (HashStands D.image D.may_leave D.past self.new first (since ++ record { number = number; changes = changes } ∷ []) hard) }
+        ensures kept { (first : First) (since : List Group) (hard : ℕ) → HashStands D.image D.may_leave D.past self.old first since hard
             → KeepsGroups D.may_leave D.moment D.left_since (hash_head self.old) (groups_held first.held ++ take hard since) (hash_disk self.old) (hash_disk self.new) }
         ensures size { (changes : List Changed) → IsStaged D.image self.old changes staged
             → OnOk result ((hash_shown D.image self.new).size ≡ (hash_shown D.image self.old).size + sum_by (change_extent 1) changes) }
@@ -147,14 +147,14 @@ impl<D: Disk> HashStore<D> {
 
     /// Makes it durable that the file is closed, with this next number.
     fn end_file(&mut self, next: u64) -> Result<(), StoreError>
-        requires whole { IsWhole (HashStands D.image D.may_leave) self.old }
+        requires whole { IsWhole (HashStands D.image D.may_leave D.past) self.old }
         requires writable { (hash_nature self.old).writable ≡ true }
         requires closed { (hash_shown D.image self.old).closed ≡ true }
-        ensures stands { (first : First) (since : List Group) (hard : ℕ) → HashStands D.image D.may_leave self.old first since hard
-            → OnOk result (HashStands D.image D.may_leave self.new first since (length since)) }
-        ensures kept { (first : First) (since : List Group) (hard : ℕ) → HashStands D.image D.may_leave self.old first since hard
+        ensures stands { (first : First) (since : List Group) (hard : ℕ) → HashStands D.image D.may_leave D.past self.old first since hard
+            → OnOk result (HashStands D.image D.may_leave D.past self.new first since (length since)) }
+        ensures kept { (first : First) (since : List Group) (hard : ℕ) → HashStands D.image D.may_leave D.past self.old first since hard
             → KeepsGroups D.may_leave D.moment D.left_since (hash_head self.old) (groups_held first.held ++ take hard since) (hash_disk self.old) (hash_disk self.new) }
-        ensures file { (groups since : List Group) (hard : ℕ) → HashStands D.image D.may_leave self.old (opening groups) since hard
+        ensures file { (groups since : List Group) (hard : ℕ) → HashStands D.image D.may_leave D.past self.old (opening groups) since hard
             → OnOk result (IfSome (D.image (hash_disk self.old)) (λ _. D.image (hash_disk self.new) ≡ Some (closed_text (hash_head self.old) (groups ++ since) next))) }
         ensures durable { OnOk result (IfSome (D.image (hash_disk self.new)) (λ f. Only f (D.may_leave (hash_disk self.new)))) }
         ensures ended { OnOk result ((hash_shown D.image self.new).ended ≡ Some next) }
@@ -209,17 +209,17 @@ impl<D: Disk> SeqStore for HashStore<D> {
 
     ghost shown = { hash_shown D.image };
 
-    ghost stands = { HashStands D.image D.may_leave };
+    ghost stands = { HashStands D.image D.may_leave D.past };
 
     ghost prepared = { HashPrepared D.image };
 
     ghost moment = { λ s. D.moment (hash_disk s) };
 
-    ghost safe = { HashSafe D.image D.left_since };
+    ghost safe = { HashSafe D.image D.left_since D.left_with };
 
-    ghost stood = { HashStood D.image D.may_leave D.moment D.left_since };
+    ghost stood = { HashStood D.image D.may_leave D.past D.moment D.left_since D.left_with };
 
-    ghost untouched = { HashUntouched D.image D.may_leave D.moment D.left_since };
+    ghost untouched = { HashUntouched D.image D.may_leave D.past D.moment D.left_since D.left_with };
 
     ghost lawful = { λ m. true };
 
@@ -227,17 +227,17 @@ impl<D: Disk> SeqStore for HashStore<D> {
 
     ghost taken_count = { λ s. D.taken_count (hash_disk s) };
 
-    ghost replays = { hash_replays D.image D.may_leave };
+    ghost replays = { hash_replays D.image D.may_leave D.past };
 
-    ghost rising = { hash_rising D.image D.may_leave };
+    ghost rising = { hash_rising D.image D.may_leave D.past };
 
-    ghost held = { hash_held D.image D.may_leave };
+    ghost held = { hash_held D.image D.may_leave D.past };
 
     ghost numbered = { λ s first since hard st. st.floor };
 
     ghost synced = { λ s first since hard st. st.synced };
 
-    ghost stood_now = { hash_stood_now D.image D.may_leave D.moment D.left_since D.only_now };
+    ghost stood_now = { hash_stood_now D.image D.may_leave D.past D.moment D.left_since D.left_with D.only_now };
 
     ghost stood_less = { hash_stood_less D.image D.left_since D.may_leave D.moment };
 
@@ -245,15 +245,15 @@ impl<D: Disk> SeqStore for HashStore<D> {
 
     ghost stood_safe = { λ s t n first since hard st. st.safe };
 
-    ghost safe_less = { hash_safe_less D.image D.left_since };
+    ghost safe_less = { hash_safe_less D.image D.left_since D.left_with };
 
     ghost unended = { hash_unended D.image };
 
     ghost values = { hash_values };
 
-    ghost untouched_same = { hash_untouched_same D.image D.may_leave D.moment D.left_since };
+    ghost untouched_same = { hash_untouched_same D.image D.may_leave D.past D.moment D.left_since D.left_with };
 
-    ghost untouched_then = { hash_untouched_then D.image D.may_leave D.moment D.left_since D.counts_now };
+    ghost untouched_then = { hash_untouched_then D.image D.may_leave D.past D.moment D.left_since D.left_with D.counts_now D.counts_with };
 
     ghost tells_need = { λ s changes told. Prim.cc };
 
@@ -301,11 +301,11 @@ impl<D: Disk> SeqStore for HashStore<D> {
     }
 
     fn get_into(&mut self, key: &[u8], into: &mut [u8]) -> Result<Option<u32>, StoreError>
-        requires whole { IsWhole (HashStands D.image D.may_leave) self.old }
+        requires whole { IsWhole (HashStands D.image D.may_leave D.past) self.old }
         ensures value { IfSome (hash_shown D.image self.old).map (λ m. IfOk result (GivesInto (find key.now m) into.old into.new)) }
         ensures cost { IfSome ((hash_shown D.image self.old).cost key.now) (λ most. D.taken_count (hash_disk self.new) ≤ D.taken_count (hash_disk self.old) + most) }
-        ensures looks { OnlyLooks hash_nature (hash_shown D.image) (HashStands D.image D.may_leave) (HashStood D.image D.may_leave D.moment D.left_since)
-            (HashUntouched D.image D.may_leave D.moment D.left_since) (λ s. D.moment (hash_disk s)) (λ s. D.taken_count (hash_disk s)) self.old self.new }
+        ensures looks { OnlyLooks hash_nature (hash_shown D.image) (HashStands D.image D.may_leave D.past) (HashStood D.image D.may_leave D.past D.moment D.left_since D.left_with)
+            (HashUntouched D.image D.may_leave D.past D.moment D.left_since D.left_with) (λ s. D.moment (hash_disk s)) (λ s. D.taken_count (hash_disk s)) self.old self.new }
         ensures cause { HasCause (D.fault_count (hash_disk self.old)) (D.fault_count (hash_disk self.new)) result }
         ensures answers { OkOrFault result }
     {
@@ -363,29 +363,29 @@ impl<D: Disk> SeqStore for HashStore<D> {
     }
 
     fn close(&mut self, next: u64) -> Result<(), StoreError>
-        requires whole { IsWhole (HashStands D.image D.may_leave) self.old }
+        requires whole { IsWhole (HashStands D.image D.may_leave D.past) self.old }
         requires open { (hash_shown D.image self.old).closed ≡ false }
         requires number { (hash_nature self.old).writable ≡ true → (hash_shown D.image self.old).floor ≤ next }
         requires below { (hash_nature self.old).writable ≡ true → next < 2 ^ 64 - 1 }
-        ensures stands { (first : First) (since : List Group) (hard : ℕ) → HashStands D.image D.may_leave self.old first since hard
-            → OnOk result (HashStands D.image D.may_leave self.new first (since ++ made (hash_nature self.old) next []) (length (since ++ made (hash_nature self.old) next []))) }
+        ensures stands { (first : First) (since : List Group) (hard : ℕ) → HashStands D.image D.may_leave D.past self.old first since hard
+            → OnOk result (HashStands D.image D.may_leave D.past self.new first (since ++ made (hash_nature self.old) next []) (length (since ++ made (hash_nature self.old) next []))) }
         ensures map { UnlessFault result ((hash_shown D.image self.new).map ≡ (hash_shown D.image self.old).map) }
-        ensures since { (t n : ℕ) (first : First) (since : List Group) (hard : ℕ) → HashStood D.image D.may_leave D.moment D.left_since self.old t n first since hard
-            → OnOk result (HashStood D.image D.may_leave D.moment D.left_since self.new t n first (since ++ made (hash_nature self.old) next []) (length (since ++ made (hash_nature self.old) next []))) }
-        ensures safe { LeavesSafe (HashStood D.image D.may_leave D.moment D.left_since) (HashSafe D.image D.left_since) (made (hash_nature self.old) next []) self.old self.new }
+        ensures since { (t n : ℕ) (first : First) (since : List Group) (hard : ℕ) → HashStood D.image D.may_leave D.past D.moment D.left_since D.left_with self.old t n first since hard
+            → OnOk result (HashStood D.image D.may_leave D.past D.moment D.left_since D.left_with self.new t n first (since ++ made (hash_nature self.old) next []) (length (since ++ made (hash_nature self.old) next []))) }
+        ensures safe { LeavesSafe (HashStood D.image D.may_leave D.past D.moment D.left_since D.left_with) (HashSafe D.image D.left_since D.left_with) (made (hash_nature self.old) next []) self.old self.new }
         ensures closed { (hash_shown D.image self.new).closed ≡ true }
         ensures ended { OnOk result ((hash_shown D.image self.new).ended ≡ ended_by (hash_nature self.old) next) }
         ensures unended { OnErr result ((hash_shown D.image self.new).ended ≡ None) }
-        ensures kept { OnNoMemory result (Keeps (HashStands D.image D.may_leave) self.old self.new × KeepsSince (HashStood D.image D.may_leave D.moment D.left_since) self.old self.new) }
+        ensures kept { OnNoMemory result (Keeps (HashStands D.image D.may_leave D.past) self.old self.new × KeepsSince (HashStood D.image D.may_leave D.past D.moment D.left_since D.left_with) self.old self.new) }
         ensures goes_on { GoesOn hash_nature (hash_shown D.image) (λ s. D.moment (hash_disk s)) (λ s. D.taken_count (hash_disk s)) self.old self.new }
         ensures cause { HasCause (D.fault_count (hash_disk self.old)) (D.fault_count (hash_disk self.new)) result }
         ensures never { NeverFull result }
         ensures answers { OkOrFault result }
-        ensures file { (groups since : List Group) (hard : ℕ) → HashStands D.image D.may_leave self.old (opening groups) since hard
+        ensures file { (groups since : List Group) (hard : ℕ) → HashStands D.image D.may_leave D.past self.old (opening groups) since hard
             → OnOk result (IfSome (D.image (hash_disk self.old)) (λ _. D.image (hash_disk self.new)
             ≡ Some (if (hash_nature self.old).writable then closed_text (hash_head self.old) (groups ++ since) next else closed_text (hash_head self.old) groups (hash_nature self.old).next))) }
         ensures durable { (hash_nature self.old).writable ≡ true → OnOk result (IfSome (D.image (hash_disk self.new)) (λ f. Only f (D.may_leave (hash_disk self.new)))) }
-        ensures reads { (hash_nature self.old).writable ≡ false → HashUntouched D.image D.may_leave D.moment D.left_since self.old self.new }
+        ensures reads { (hash_nature self.old).writable ≡ false → HashUntouched D.image D.may_leave D.past D.moment D.left_since D.left_with self.old self.new }
         ensures told { is_some (D.image (hash_disk self.new)) ≡ is_some (D.image (hash_disk self.old)) }
     {
         self.closed = true;

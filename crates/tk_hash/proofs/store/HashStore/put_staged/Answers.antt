@@ -12,12 +12,12 @@ use Rattle.tk_hash.proofs.store.HashStore.put_staged.Goals as goal
 pub append-requires-clause-here : goal.append-requires-clause-here
 append-requires-clause-here g c =
     let w = c.requires.whole in
-    length_there g.D.Disk.image g.D.Disk.may_leave c.args.self.now w.0 w.1 w.2 w.3
+    length_there g.D.Disk.image g.D.Disk.may_leave g.D.Disk.past c.args.self.now w.0 w.1 w.2 w.3
 
 pub returns-in_err-told-clause-kept : goal.returns-in_err-told-clause-kept
 returns-in_err-told-clause-kept g c first since hard st =
     let is = c.requires.staged.1 in
-    appended_keeps g.D.Disk.image g.D.Disk.may_leave g.D.Disk.moment g.D.Disk.left_since c.args.self.now first since hard st _ _
+    appended_keeps g.D.Disk.image g.D.Disk.may_leave g.D.Disk.past g.D.Disk.moment g.D.Disk.left_since g.D.Disk.left_with c.args.self.now first since hard st _ _
     (c.append.ensures.crash c.requires.staged.0 is.links is.ready) (c.append.ensures.time c.requires.staged.0 is.links is.ready)
 
 pub put_heads-requires-clause-there : goal.put_heads-requires-clause-there
@@ -25,7 +25,7 @@ put_heads-requires-clause-there g c =
     let w = c.requires.whole in
     let s = c.args.self.now in
     let is = c.requires.staged.1 in
-    rw c.append.ensures.head (still_there (g.D.Disk.image (log_disk s.log)) _ (log_end s.log) (base_of (log_head s.log).p) _ (length_there g.D.Disk.image g.D.Disk.may_leave s w.0 w.1 w.2 w.3) (base_within g.D.Disk.image g.D.Disk.may_leave s w.0 w.1 w.2 w.3)
+    rw c.append.ensures.head (still_there (g.D.Disk.image (log_disk s.log)) _ (log_end s.log) (base_of (log_head s.log).p) _ (length_there g.D.Disk.image g.D.Disk.may_leave g.D.Disk.past s w.0 w.1 w.2 w.3) (base_within g.D.Disk.image g.D.Disk.may_leave g.D.Disk.past s w.0 w.1 w.2 w.3)
     (done c.append.result c.told.result c.in_ok-told.field-0 c.told.ensures.err (search rules) (c.append.ensures.written c.requires.staged.0 is.links is.ready)))
 
 pub set_heads-requires : goal.set_heads-requires
@@ -37,8 +37,8 @@ pub returns-in_err-told-2-clause-kept : goal.returns-in_err-told-2-clause-kept
 returns-in_err-told-2-clause-kept g c first since hard st =
     let s = c.args.self.now in
     let is = c.requires.staged.1 in
-    put_keeps g.D.Disk.image g.D.Disk.may_leave g.D.Disk.moment g.D.Disk.left_since s first since hard st _ _ _ c.append.ensures.head
-    (appended_keeps g.D.Disk.image g.D.Disk.may_leave g.D.Disk.moment g.D.Disk.left_since s first since hard st _ _
+    put_keeps g.D.Disk.image g.D.Disk.may_leave g.D.Disk.past g.D.Disk.moment g.D.Disk.left_since g.D.Disk.left_with s first since hard st _ _ _ c.append.ensures.head
+    (appended_keeps g.D.Disk.image g.D.Disk.may_leave g.D.Disk.past g.D.Disk.moment g.D.Disk.left_since g.D.Disk.left_with s first since hard st _ _
     (c.append.ensures.crash c.requires.staged.0 is.links is.ready) (c.append.ensures.time c.requires.staged.0 is.links is.ready))
     c.put_heads.ensures.crash c.put_heads.ensures.time
 
@@ -46,8 +46,8 @@ pub returns-clause-kept : goal.returns-clause-kept
 returns-clause-kept g c first since hard st =
     let s = c.args.self.now in
     let is = c.requires.staged.1 in
-    put_keeps g.D.Disk.image g.D.Disk.may_leave g.D.Disk.moment g.D.Disk.left_since s first since hard st _ _ _ c.append.ensures.head
-    (appended_keeps g.D.Disk.image g.D.Disk.may_leave g.D.Disk.moment g.D.Disk.left_since s first since hard st _ _
+    put_keeps g.D.Disk.image g.D.Disk.may_leave g.D.Disk.past g.D.Disk.moment g.D.Disk.left_since g.D.Disk.left_with s first since hard st _ _ _ c.append.ensures.head
+    (appended_keeps g.D.Disk.image g.D.Disk.may_leave g.D.Disk.past g.D.Disk.moment g.D.Disk.left_since g.D.Disk.left_with s first since hard st _ _
     (c.append.ensures.crash c.requires.staged.0 is.links is.ready) (c.append.ensures.time c.requires.staged.0 is.links is.ready))
     c.put_heads.ensures.crash c.put_heads.ensures.time
 
@@ -55,7 +55,7 @@ pub returns-clause-stands : goal.returns-clause-stands
 returns-clause-stands g c changes is fits alone first since hard st =
     let s = c.args.self.now in
     let set : c.set_heads.new.heads ≡ with_heads c.args.staged.heads s.heads.items = c.set_heads.ensures ∙ ap (with_heads c.args.staged.heads) c.deref_mut.ensures.value in
-    grown g.D.Disk.image g.D.Disk.may_leave g.D.Disk.moment g.D.Disk.left_since s (record s { log = c.put_heads.new.log; count = c.args.staged.count; last = Some c.args.number; heads = with_items s.heads c.set_heads.new.heads; shelf = None }) c.args.staged c.args.number changes (g.D.Disk.image (log_disk c.append.new.self)) first since hard is fits alone c.requires.writable c.requires.number (omega arith) st
+    grown g.D.Disk.image g.D.Disk.may_leave g.D.Disk.past g.D.Disk.moment g.D.Disk.left_since g.D.Disk.left_with s (record s { log = c.put_heads.new.log; count = c.args.staged.count; last = Some c.args.number; heads = with_items s.heads c.set_heads.new.heads; shelf = None }) c.args.staged c.args.number changes (g.D.Disk.image (log_disk c.append.new.self)) first since hard is fits alone c.requires.writable c.requires.number (omega arith) st
     (c.put_heads.ensures.head ∙ c.append.ensures.head)
     (c.put_heads.ensures.end ∙ done c.append.result c.told.result c.in_ok-told.field-0 c.told.ensures.err (search rules) (c.append.ensures.end changes is.links is.ready))
     refl refl refl refl refl refl (items-lent s.heads c.set_heads.new.heads (ap length set ∙ length-with_heads c.args.staged.heads s.heads.items) ∙ set) refl refl (c.put_heads.ensures.told ∙ c.append.ensures.told)

@@ -19,36 +19,36 @@ pub plan_changes-requires-clause-end : goal.plan_changes-requires-clause-end
 plan_changes-requires-clause-end g c = rw c.end-end.ensures (omega (arith, ends_sum 0 (log_end c.args.self.now.log) c.args.changes.now, c.requires.end))
 
 pub plan_changes-requires-clause-heads : goal.plan_changes-requires-clause-heads
-plan_changes-requires-clause-heads g c = heads_at g.D.Disk.image g.D.Disk.may_leave c.args.self.now c.disk.result.now c.head.result.now c.deref.result.now c.requires.whole c.disk.ensures.value c.head.ensures c.deref.ensures.value
+plan_changes-requires-clause-heads g c = heads_at g.D.Disk.image g.D.Disk.may_leave g.D.Disk.past c.args.self.now c.disk.result.now c.head.result.now c.deref.result.now c.requires.whole c.disk.ensures.value c.head.ensures c.deref.ensures.value
 
 pub prepare-requires-clause-end : goal.prepare-requires-clause-end
 prepare-requires-clause-end g c = omega (arith, ends_sum 0 (log_end c.args.self.now.log) c.args.changes.now, c.requires.end)
 
 pub returns-in_err-plan-clause-stands : goal.returns-in_err-plan-clause-stands
 returns-in_err-plan-clause-stands g c first since hard st =
-    read_on g.D.Disk.image g.D.Disk.may_leave c.args.self.now _ first since hard
+    read_on g.D.Disk.image g.D.Disk.may_leave g.D.Disk.past g.D.Disk.moment g.D.Disk.left_since g.D.Disk.left_with c.args.self.now _ first since hard
     (same_read g.D.Disk.image c.args.self.now _ c.disk.result.now c.disk.ensures.value (λ unclosed. unclosed) refl refl refl refl refl refl refl refl (length-lent c.args.self.now.buffer c.plan_changes.new.buffer) c.plan_changes.ensures.image)
     (shelf_same g.D.Disk.image c.args.self.now)
-    (still_at g.D.Disk.image g.D.Disk.may_leave g.D.Disk.moment g.D.Disk.left_since _ _ _ c.disk.ensures.value c.plan_changes.ensures.still).crash st
+    (still_at g.D.Disk.image g.D.Disk.may_leave g.D.Disk.past g.D.Disk.moment g.D.Disk.left_since g.D.Disk.left_with _ _ _ c.disk.ensures.value c.plan_changes.ensures.still) st
 
 pub returns-in_err-plan-clause-since : goal.returns-in_err-plan-clause-since
 returns-in_err-plan-clause-since g c t n first since hard st =
-    stood_on g.D.Disk.image g.D.Disk.may_leave g.D.Disk.moment g.D.Disk.left_since c.args.self.now _ t n first since hard
+    stood_on g.D.Disk.image g.D.Disk.may_leave g.D.Disk.past g.D.Disk.moment g.D.Disk.left_since g.D.Disk.left_with g.met.D.Disk.since_with c.args.self.now _ t n first since hard
     (same_read g.D.Disk.image c.args.self.now _ c.disk.result.now c.disk.ensures.value (λ unclosed. unclosed) refl refl refl refl refl refl refl refl (length-lent c.args.self.now.buffer c.plan_changes.new.buffer) c.plan_changes.ensures.image)
     (shelf_same g.D.Disk.image c.args.self.now)
-    (still_at g.D.Disk.image g.D.Disk.may_leave g.D.Disk.moment g.D.Disk.left_since _ _ _ c.disk.ensures.value c.plan_changes.ensures.still) st
+    (still_at g.D.Disk.image g.D.Disk.may_leave g.D.Disk.past g.D.Disk.moment g.D.Disk.left_since g.D.Disk.left_with _ _ _ c.disk.ensures.value c.plan_changes.ensures.still) st
 
 pub returns-in_err-prepare-clause-stands : goal.returns-in_err-prepare-clause-stands
 returns-in_err-prepare-clause-stands g c first since hard st =
-    read_on g.D.Disk.image g.D.Disk.may_leave c.args.self.now _ first since hard
+    read_on g.D.Disk.image g.D.Disk.may_leave g.D.Disk.past g.D.Disk.moment g.D.Disk.left_since g.D.Disk.left_with c.args.self.now _ first since hard
     (same_read g.D.Disk.image c.args.self.now _ c.disk.result.now c.disk.ensures.value (λ unclosed. unclosed) c.prepare.ensures.head c.prepare.ensures.end refl refl refl refl refl refl (length-lent c.args.self.now.buffer c.plan_changes.new.buffer) (ap g.D.Disk.image c.prepare.ensures.disk ∙ c.plan_changes.ensures.image))
-    (shelf_same g.D.Disk.image c.args.self.now) (still_on g.D.Disk.image g.D.Disk.may_leave g.D.Disk.moment g.D.Disk.left_since _ _ _ _ c.disk.ensures.value c.prepare.ensures.disk c.plan_changes.ensures.still).crash st
+    (shelf_same g.D.Disk.image c.args.self.now) (still_on g.D.Disk.image g.D.Disk.may_leave g.D.Disk.past g.D.Disk.moment g.D.Disk.left_since g.D.Disk.left_with _ _ _ _ c.disk.ensures.value c.prepare.ensures.disk c.plan_changes.ensures.still) st
 
 pub returns-in_err-prepare-clause-since : goal.returns-in_err-prepare-clause-since
 returns-in_err-prepare-clause-since g c t n first since hard st =
-    stood_on g.D.Disk.image g.D.Disk.may_leave g.D.Disk.moment g.D.Disk.left_since c.args.self.now _ t n first since hard
+    stood_on g.D.Disk.image g.D.Disk.may_leave g.D.Disk.past g.D.Disk.moment g.D.Disk.left_since g.D.Disk.left_with g.met.D.Disk.since_with c.args.self.now _ t n first since hard
     (same_read g.D.Disk.image c.args.self.now _ c.disk.result.now c.disk.ensures.value (λ unclosed. unclosed) c.prepare.ensures.head c.prepare.ensures.end refl refl refl refl refl refl (length-lent c.args.self.now.buffer c.plan_changes.new.buffer) (ap g.D.Disk.image c.prepare.ensures.disk ∙ c.plan_changes.ensures.image))
-    (shelf_same g.D.Disk.image c.args.self.now) (still_on g.D.Disk.image g.D.Disk.may_leave g.D.Disk.moment g.D.Disk.left_since _ _ _ _ c.disk.ensures.value c.prepare.ensures.disk c.plan_changes.ensures.still) st
+    (shelf_same g.D.Disk.image c.args.self.now) (still_on g.D.Disk.image g.D.Disk.may_leave g.D.Disk.past g.D.Disk.moment g.D.Disk.left_since g.D.Disk.left_with _ _ _ _ c.disk.ensures.value c.prepare.ensures.disk c.plan_changes.ensures.still) st
 
 pub returns-clause-staged : goal.returns-clause-staged
 returns-clause-staged g c =
@@ -76,12 +76,12 @@ returns-clause-staged g c =
 
 pub returns-clause-stands : goal.returns-clause-stands
 returns-clause-stands g c first since hard st =
-    read_on g.D.Disk.image g.D.Disk.may_leave c.args.self.now _ first since hard
+    read_on g.D.Disk.image g.D.Disk.may_leave g.D.Disk.past g.D.Disk.moment g.D.Disk.left_since g.D.Disk.left_with c.args.self.now _ first since hard
     (same_read g.D.Disk.image c.args.self.now _ c.disk.result.now c.disk.ensures.value (λ unclosed. unclosed) c.prepare.ensures.head c.prepare.ensures.end refl refl refl refl refl refl (length-lent c.args.self.now.buffer c.plan_changes.new.buffer) (ap g.D.Disk.image c.prepare.ensures.disk ∙ c.plan_changes.ensures.image))
-    (shelf_same g.D.Disk.image c.args.self.now) (still_on g.D.Disk.image g.D.Disk.may_leave g.D.Disk.moment g.D.Disk.left_since _ _ _ _ c.disk.ensures.value c.prepare.ensures.disk c.plan_changes.ensures.still).crash st
+    (shelf_same g.D.Disk.image c.args.self.now) (still_on g.D.Disk.image g.D.Disk.may_leave g.D.Disk.past g.D.Disk.moment g.D.Disk.left_since g.D.Disk.left_with _ _ _ _ c.disk.ensures.value c.prepare.ensures.disk c.plan_changes.ensures.still) st
 
 pub returns-clause-since : goal.returns-clause-since
 returns-clause-since g c t n first since hard st =
-    stood_on g.D.Disk.image g.D.Disk.may_leave g.D.Disk.moment g.D.Disk.left_since c.args.self.now _ t n first since hard
+    stood_on g.D.Disk.image g.D.Disk.may_leave g.D.Disk.past g.D.Disk.moment g.D.Disk.left_since g.D.Disk.left_with g.met.D.Disk.since_with c.args.self.now _ t n first since hard
     (same_read g.D.Disk.image c.args.self.now _ c.disk.result.now c.disk.ensures.value (λ unclosed. unclosed) c.prepare.ensures.head c.prepare.ensures.end refl refl refl refl refl refl (length-lent c.args.self.now.buffer c.plan_changes.new.buffer) (ap g.D.Disk.image c.prepare.ensures.disk ∙ c.plan_changes.ensures.image))
-    (shelf_same g.D.Disk.image c.args.self.now) (still_on g.D.Disk.image g.D.Disk.may_leave g.D.Disk.moment g.D.Disk.left_since _ _ _ _ c.disk.ensures.value c.prepare.ensures.disk c.plan_changes.ensures.still) st
+    (shelf_same g.D.Disk.image c.args.self.now) (still_on g.D.Disk.image g.D.Disk.may_leave g.D.Disk.past g.D.Disk.moment g.D.Disk.left_since g.D.Disk.left_with _ _ _ _ c.disk.ensures.value c.prepare.ensures.disk c.plan_changes.ensures.still) st
