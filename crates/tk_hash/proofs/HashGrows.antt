@@ -5,8 +5,8 @@ use Rattle.std.specs.Option.{option_map, is_some}
 use Rattle.std.proofs.lemmas.List.{append-nil, take_all, take-append-le, length-replicate}
 use Rattle.std.proofs.lemmas.Option.{IfSome_then}
 use Rattle.std.proofs.lemmas.Bool.Decides.{nat_tests}
-use Rattle.tk_disk.specs.Past.{Past}
-use Rattle.tk_disk.specs.Crash.{Torn, Follows, Within, Only, LeavesOnly}
+use Rattle.tk_disk.specs.Past.{Past, Writes}
+use Rattle.tk_disk.specs.Crash.{Torn, Follows, Within, Only, LeavesOnly, PastOnly}
 use Rattle.tk_model.specs.declared.record.Order.TheVariants.{Hash}
 use Rattle.tk_model.specs.declared.record.Pair.{Pair}
 use Rattle.tk_model.specs.declared.record.Group.{Group}
@@ -28,10 +28,12 @@ use Rattle.tk_append.specs.Log.{AreGroups, blocks_of, closed_text}
 use Rattle.tk_append.specs.LogParts.{log_disk, log_head, log_end, with_closing}
 use Rattle.tk_append.specs.FileText.{text_of, text_with, IsFile}
 use Rattle.tk_append.specs.Restored.{IsKept}
+use Rattle.tk_append.specs.FairPast.{IsFairPast}
 use Rattle.tk_append.proofs.LogSteps.{end_more}
 use Rattle.tk_append.proofs.Restoring.{file_kept}
+use Rattle.tk_hash.specs.Fair.{KeepsFair}
 use Rattle.tk_hash.specs.Hash.{groups_held, floor_of, opening, map_in, KeepsGroups, IsStaged, HashPrepared, HashStands, HashStood}
-use Rattle.tk_hash.specs.HashLaws.{groups_joined, length-text_of, is_file, all_legal, kept_held, file_of}
+use Rattle.tk_hash.specs.HashLaws.{groups_joined, length-text_of, is_file, all_legal, kept_held, fair_held, file_of}
 use Rattle.tk_hash.specs.declared.store.HashStore.{HashStore}
 use Rattle.tk_hash.specs.declared.store.Staged.{Staged}
 use Rattle.tk_hash.specs.declared.plan.NewHeads.{NewHeads}
@@ -41,7 +43,9 @@ use Rattle.tk_hash.specs.Plan.{with_heads}
 use Rattle.tk_hash.specs.declared.shelf.Shelf.{Shelf}
 use Rattle.tk_hash.specs.Seek.{KnowsHeads, IsShelf}
 use Rattle.tk_hash.proofs.Keeping.{front_ends, keeps_torn, keeps_joined}
-use Rattle.tk_hash.proofs.HashKeeps.{SameFile, KeepsShelf, carried, rested, shelf_same, heads_known, heads_stand, done, map_is}
+use Rattle.tk_hash.proofs.Fairness.{fair_write, fair_joined, fair_settles, fair_closes, group_fair}
+use Rattle.tk_append.specs.LogPasts.{Settles, Closes}
+use Rattle.tk_hash.proofs.HashKeeps.{SameFile, KeepsShelf, carried, carried_both, rested, shelf_same, heads_known, heads_stand, done, map_is}
 use Rattle.tk_hash.proofs.HashTexts.{PutsHeads, file_more, heads_behind, closed_there, closed_now, closed_still}
 
 -- a header's p
@@ -172,7 +176,7 @@ module _ {D : Type 0} (image : D → Option (List ℕ)) (may_leave : D → List 
     -- what waits, and that close was called, is no part of what a store stands for
     pub restaged : (o : Option Staged) (b : Bool) → (b ≡ false → s.closed ≡ false) → HashStands image may_leave past (record s { staged = o; closed = b }) first since hard
     restaged o b unclosed = rested image may_leave past s (record s { staged = o; closed = b }) first since hard hard st
-        (record { head = refl; end = refl; closing = refl; count = refl; next = refl; last = refl; writable = refl; closed = unclosed; heads = refl; buffer = refl; bytes = refl }) (shelf_same image s) st.synced st.kept
+        (record { head = refl; end = refl; closing = refl; count = refl; next = refl; last = refl; writable = refl; closed = unclosed; heads = refl; buffer = refl; bytes = refl }) (shelf_same image s) st.synced st.kept st.fair
 
     -- where its groups end
     pub groups_end : log_end s.log ≡ end_of (base_of (log_head s.log).p) (bodies_of (groups_held first.held ++ since))
@@ -210,9 +214,9 @@ module _ {D : Type 0} (image : D → Option (List ℕ)) (may_leave : D → List 
 
   pub stood_staged : (moment : D → ℕ) (left_since : D → ℕ → List ℕ → Type 0) (left_with : D → ℕ → Past × List ℕ → Type 0) (s : HashStore D) (o : Option Staged) (b : Bool) → (b ≡ false → s.closed ≡ false) → (since_when n : ℕ) (first : First) (since : List Group) (hard : ℕ) → HashStood image may_leave past moment left_since left_with s since_when n first since hard
       → HashStood image may_leave past moment left_since left_with (record s { staged = o; closed = b }) since_when n first since hard
-  stood_staged moment left_since s o b unclosed since_when n first since hard st = record {
+  stood_staged moment left_since left_with s o b unclosed since_when n first since hard st = record {
     stands = restaged s first since hard st.stands o b unclosed;
-    safe = record { within = st.safe.within; each = st.safe.each; kept = st.safe.kept };
+    safe = record { within = st.safe.within; each = st.safe.each; fair = st.safe.fair; kept = st.safe.kept };
     least = st.least;
     before = st.before;
   }
@@ -233,6 +237,23 @@ module _ {D : Type 0} (image : D → Option (List ℕ)) (may_leave : D → List 
         let within : 64 + 8 * 2 ^ k.p ≤ base_of (log_head s.log).p = rw same (omega arith) in
         keeps_joined may_leave moment left_since (log_head s.log) (groups_held first.held ++ take hard since) (log_disk s.log) mid last keeps
         (keeps_torn may_leave moment left_since (log_head s.log) (groups_held first.held ++ take hard since) mid last 64 (8 * 2 ^ k.p) (inl (omega arith, within)) follows time)
+
+    -- and the past fair for it and them
+    pub appended_fair : (mid : D) (n : ℕ) (cs : List Change) (links : List ℕ)
+        → Writes (log_end s.log) (group_text (record { number = n; changes = cs }) (log_end s.log) links) (past (log_disk s.log)) (past mid)
+        → PastOnly moment left_with (log_disk s.log) mid (Writes (log_end s.log) (group_text (record { number = n; changes = cs }) (log_end s.log) links) (past (log_disk s.log)))
+        → KeepsFair past moment left_with (log_head s.log) (groups_held first.held ++ since) (record { number = n; changes = cs } ∷ []) (log_disk s.log) mid
+    appended_fair mid n cs links written only =
+        fair_write past moment left_with (log_head s.log) (groups_held first.held ++ since) (record { number = n; changes = cs } ∷ []) (log_disk s.log) mid (log_end s.log) _ written only
+        (group_fair (log_head s.log) (groups_held first.held ++ since) n (log_end s.log) cs links (groups_end s first since hard st))
+
+    pub put_fair : (mid last : D) (k : StaticHead) (n : ℕ) (cs : List Change) → k ≡ log_head s.log
+        → KeepsFair past moment left_with (log_head s.log) (groups_held first.held ++ since) (record { number = n; changes = cs } ∷ []) (log_disk s.log) mid
+        → ((groups : List Group) → KeepsFair past moment left_with k groups [] mid last)
+        → KeepsFair past moment left_with (log_head s.log) (groups_held first.held ++ since) (record { number = n; changes = cs } ∷ []) (log_disk s.log) last
+    put_fair mid last k n cs same first_part heads =
+        fair_joined past moment left_with (log_head s.log) (groups_held first.held ++ since) (record { number = n; changes = cs } ∷ []) (log_disk s.log) mid last first_part
+        (subst (λ (h : StaticHead). KeepsFair past moment left_with h ((groups_held first.held ++ since) ++ record { number = n; changes = cs } ∷ []) [] mid last) same (heads _))
 
   -- the file that a store closes
   pub closed_file : (s : HashStore D) (new : Option (List ℕ)) (next : ℕ) (groups since : List Group) (hard : ℕ) → HashStands image may_leave past s (opening groups) since hard
@@ -257,8 +278,9 @@ module _ {D : Type 0} (image : D → Option (List ℕ)) (may_leave : D → List 
       → is_some (image (log_disk t.log)) ≡ is_some (image (log_disk s.log)) → mid ≡ option_map (λ f. f ++ group_text (record { number = n; changes = cs }) (log_end s.log) is.links) (image (log_disk s.log))
       → PutsHeads mid (image (log_disk t.log)) (log_head s.log) g.heads
       → KeepsGroups may_leave moment left_since (log_head s.log) (groups_held first.held ++ take hard since) (log_disk s.log) (log_disk t.log)
+      → KeepsFair past moment left_with (log_head s.log) (groups_held first.held ++ since) (record { number = n; changes = cs } ∷ []) (log_disk s.log) (log_disk t.log)
       → HashStands image may_leave past t first (since ++ record { number = n; changes = cs } ∷ []) hard
-  grown moment left_since s t g n cs mid first since hard is fits alone may above small st head end count last next writable closing closed heads buffer shelf told appended puts keeps =
+  grown moment left_since left_with s t g n cs mid first since hard is fits alone may above small st head end count last next writable closing closed heads buffer shelf told appended puts keeps fair_on =
       let more : Group = record { number = n; changes = cs } in
       let h : StaticHead = log_head s.log in
       let o : Option (List ℕ) = image (log_disk s.log) in
@@ -308,23 +330,64 @@ module _ {D : Type 0} (image : D → Option (List ℕ)) (may_leave : D → List 
         kept = λ _. subst (λ (k : StaticHead). IfSome (image (log_disk t.log)) (λ f. (c : List ℕ) → may_leave (log_disk t.log) c → IsKept k (st.groups ++ take hard (since ++ more ∷ [])) c)) (sym head)
             (subst (λ (l : List Group). IfSome (image (log_disk t.log)) (λ f. (c : List ℕ) → may_leave (log_disk t.log) c → IsKept h (st.groups ++ l) c)) (sym (take-append-le hard since (more ∷ []) st.synced))
             (subst (λ (l : List Group). IfSome (image (log_disk t.log)) (λ f. (c : List ℕ) → may_leave (log_disk t.log) c → IsKept h (l ++ take hard since) c)) (ap groups_held st.held) kept));
+        fair = λ _. carried o (image (log_disk t.log)) told (fair_held image may_leave past s first since hard st may)
+            (λ was. subst (λ (k : StaticHead). IsFairPast k (st.groups ++ (since ++ more ∷ [])) (past (log_disk t.log))) (sym head)
+            (subst (λ (l : List Group). IsFairPast h l (past (log_disk t.log))) (ap (λ (l : List Group). (l ++ since) ++ more ∷ []) (ap groups_held st.held) ∙ joined) (fair_on.now was)));
       }
 
+  -- a group more is legal behind them
+  pub legal_more : (s : HashStore D) (first : First) (since : List Group) (hard : ℕ) → HashStands image may_leave past s first since hard → (n : ℕ) (cs : List Change) → cs ≢ [] → AllFit cs → IsClearAlone cs → floor_of s.next s.last ≤ n → n < 2 ^ 64
+      → AreGroups 0 (2 ^ 64) (groups_held first.held ++ (since ++ record { number = n; changes = cs } ∷ []))
+  legal_more s first since hard st n cs some fits alone above small =
+      subst (λ (gs : List Group). AreGroups 0 (2 ^ 64) (gs ++ (since ++ record { number = n; changes = cs } ∷ []))) (sym (ap groups_held st.held))
+      (groups_joined 0 s.next (2 ^ 64) st.groups (since ++ record { number = n; changes = cs } ∷ []) st.legal
+      (groups_joined s.next (floor_of s.next s.last) (2 ^ 64) since (record { number = n; changes = cs } ∷ []) st.later (above, some, fits, alone, omega (arith, small))))
+
+  -- the groups that a store stands for are those of its file
+  file_held : (s : HashStore D) (first : First) (since : List Group) (hard : ℕ) → HashStands image may_leave past s first since hard → IfSome (image (log_disk s.log)) (λ f. IsFile (log_head s.log) f (groups_held first.held ++ since))
+  file_held s first since hard st =
+      subst (λ (gs : List Group). IfSome (image (log_disk s.log)) (λ f. IsFile (log_head s.log) f (gs ++ since))) (sym (ap groups_held st.held)) (is_file image may_leave past s first since hard st)
+
+  pub closes_held : (moment : D → ℕ) (left_with : D → ℕ → Past × List ℕ → Type 0) (s : HashStore D) (first : First) (since : List Group) (hard : ℕ) → HashStands image may_leave past s first since hard → (new : D) (c : Closing)
+      → Closes c (image (log_disk s.log)) (past (log_disk s.log)) (past new) → PastOnly moment left_with (log_disk s.log) new (Closes c (image (log_disk s.log)) (past (log_disk s.log)))
+      → IfSome (image (log_disk s.log)) (λ f. KeepsFair past moment left_with (log_head s.log) (groups_held first.held ++ since) [] (log_disk s.log) new)
+  closes_held moment left_with s first since hard st new c now only =
+      fair_closes past moment left_with (log_head s.log) (image (log_disk s.log)) (groups_held first.held ++ since) c (log_disk s.log) new (file_held s first since hard st) now only
+
+  pub settles_held : (moment : D → ℕ) (left_with : D → ℕ → Past × List ℕ → Type 0) (s : HashStore D) (first : First) (since : List Group) (hard : ℕ) → HashStands image may_leave past s first since hard → (new : D)
+      → Settles (image (log_disk s.log)) (past (log_disk s.log)) (past new) → PastOnly moment left_with (log_disk s.log) new (Settles (image (log_disk s.log)) (past (log_disk s.log)))
+      → IfSome (image (log_disk s.log)) (λ f. KeepsFair past moment left_with (log_head s.log) (groups_held first.held ++ since) [] (log_disk s.log) new)
+  settles_held moment left_with s first since hard st new now only =
+      fair_settles past moment left_with (log_head s.log) (image (log_disk s.log)) (groups_held first.held ++ since) (log_disk s.log) new (file_held s first since hard st) now only
+
+  -- what a call that writes no group leaves of a fair past
+  fair_after : (moment : D → ℕ) (left_with : D → ℕ → Past × List ℕ → Type 0) (s : HashStore D) (first : First) (since : List Group) (hard : ℕ) (st : HashStands image may_leave past s first since hard) (new : D) → s.writable ≡ true
+      → IfSome (image (log_disk s.log)) (λ f. KeepsFair past moment left_with (log_head s.log) (groups_held first.held ++ since) [] (log_disk s.log) new)
+      → IfSome (image (log_disk s.log)) (λ f. IsFairPast (log_head s.log) (st.groups ++ since) (past new))
+  fair_after moment left_with s first since hard st new may fair_on =
+      carried_both (image (log_disk s.log)) (image (log_disk s.log)) refl (fair_held image may_leave past s first since hard st may) fair_on
+      (λ was keeps. subst (λ (l : List Group). IsFairPast (log_head s.log) l (past new)) (append-nil _ ∙ ap (λ (l : List Group). l ++ since) (ap groups_held st.held)) (keeps.now was))
+
   -- the store after a sync
-  pub synced : (s t : HashStore D) (b : Bool) (first : First) (since : List Group) (hard : ℕ) → SameFile image s t → KeepsShelf image s t.shelf → (b ≡ true → s.writable ≡ true → IfSome (image (log_disk s.log)) (λ f. Only f (may_leave (log_disk t.log))))
+  pub synced : (moment : D → ℕ) (left_with : D → ℕ → Past × List ℕ → Type 0) (s t : HashStore D) (b : Bool) (first : First) (since : List Group) (hard : ℕ) → SameFile image s t → KeepsShelf image s t.shelf
+      → (b ≡ true → s.writable ≡ true → IfSome (image (log_disk s.log)) (λ f. Only f (may_leave (log_disk t.log))))
+      → (s.writable ≡ true → IfSome (image (log_disk s.log)) (λ f. KeepsFair past moment left_with (log_head s.log) (groups_held first.held ++ since) [] (log_disk s.log) (log_disk t.log)))
       → Within (may_leave (log_disk s.log)) (may_leave (log_disk t.log)) → HashStands image may_leave past s first since hard → HashStands image may_leave past t first since (if b then length since else hard)
-  synced s t true first since hard same shelf only within st =
+  synced moment left_with s t true first since hard same shelf only fair_on within st =
       rested image may_leave past s t first since hard (length since) st same shelf (omega arith)
       (λ may. subst (λ (l : List Group). IfSome (image (log_disk s.log)) (λ f. (c : List ℕ) → may_leave (log_disk t.log) c → IsKept (log_head s.log) (st.groups ++ l) c)) (sym (take_whole since))
       (only_kept (image (log_disk s.log)) (log_head s.log) (st.groups ++ since) (may_leave (log_disk t.log)) (is_file image may_leave past s first since hard st) (only refl may)))
-  synced s t false first since hard same shelf only within st =
+      (λ may. fair_after moment left_with s first since hard st (log_disk t.log) may (fair_on may))
+  synced moment left_with s t false first since hard same shelf only fair_on within st =
       rested image may_leave past s t first since hard hard st same shelf st.synced (λ may. IfSome_then (image (log_disk s.log)) (st.kept may) (λ f kept c left. kept c (within c left)))
+      (λ may. fair_after moment left_with s first since hard st (log_disk t.log) may (fair_on may))
 
   -- the store after another closing part
-  pub marked : (s t : HashStore D) (new : Closing) (first : First) (since : List Group) (hard : ℕ) → s.writable ≡ true → HashStands image may_leave past s first since hard → log_head t.log ≡ log_head s.log → log_end t.log ≡ log_end s.log → t.closing ≡ new
+  pub marked : (moment : D → ℕ) (left_with : D → ℕ → Past × List ℕ → Type 0) (s t : HashStore D) (new : Closing) (first : First) (since : List Group) (hard : ℕ) → s.writable ≡ true → HashStands image may_leave past s first since hard → log_head t.log ≡ log_head s.log → log_end t.log ≡ log_end s.log → t.closing ≡ new
       → t.count ≡ s.count → t.next ≡ s.next → t.last ≡ s.last → t.writable ≡ s.writable → t.heads.items ≡ s.heads.items → t.buffer.items ≡ s.buffer.items → t.shelf ≡ s.shelf → t.closed ≡ true
-      → image (log_disk t.log) ≡ option_map (with_closing new) (image (log_disk s.log)) → IfSome (image (log_disk t.log)) (λ f. Only f (may_leave (log_disk t.log))) → HashStands image may_leave past t first since (length since)
-  marked s t new first since hard may st head end closing count next last writable heads buffer shelf closed written only =
+      → image (log_disk t.log) ≡ option_map (with_closing new) (image (log_disk s.log)) → IfSome (image (log_disk t.log)) (λ f. Only f (may_leave (log_disk t.log)))
+      → IfSome (image (log_disk s.log)) (λ f. KeepsFair past moment left_with (log_head s.log) (groups_held first.held ++ since) [] (log_disk s.log) (log_disk t.log)) → HashStands image may_leave past t first since (length since)
+  marked moment left_with s t new first since hard may st head end closing count next last writable heads buffer shelf closed written only fair_on =
       let h : StaticHead = log_head s.log in
       let o : Option (List ℕ) = image (log_disk s.log) in
       let all : List Group = st.groups ++ since in
@@ -355,4 +418,5 @@ module _ {D : Type 0} (image : D → Option (List ℕ)) (may_leave : D → List 
         unmarked = λ no. absurd (cc (no, writable, may));
         shelf = rw (head, shelf) (carried o (image (log_disk t.log)) told st.shelf (λ same. same));
         kept = λ _. rw (head, take_whole since) (only_kept (image (log_disk t.log)) h all (may_leave (log_disk t.log)) file only);
+        fair = λ _. rw head (carried o (image (log_disk t.log)) told (fair_after moment left_with s first since hard st (log_disk t.log) may fair_on) (λ fair. fair));
       }

@@ -1,5 +1,6 @@
 -- A hash store that stands for groups goes on to stand for them.
-use Rattle.std.proofs.Common.{◌≡◌, inl, inr, ℕ, ◌≤◌, ◌^◌, Bool, true, false, List, [], ◌++◌, length, take, refl, sym, ◌∙◌, ap, subst, arith}
+use Rattle.std.proofs.Common.{◌≡◌, inl, inr, ℕ, ◌≤◌, Bool, true, false, List, [], ◌++◌, length, take, refl, sym, ◌∙◌, ap, subst, arith, ◌<◌, ◌^◌, ◌+◌, append_assoc, length-append}
+use Rattle.std.proofs.lemmas.List.{append-nil, take-append-le}
 use Rattle.std.specs.Prelude.{Option, Some, None, IfSome, Result, Ok, Err, OnOk, OnErr, if◌then◌else◌}
 use Rattle.std.specs.Option.{option_map, is_some}
 use Rattle.std.proofs.lemmas.Option.{IfSome_then}
@@ -21,13 +22,18 @@ use Rattle.tk_append.specs.Log.{blocks_of}
 use Rattle.tk_append.specs.LogParts.{log_disk, log_head, log_end}
 use Rattle.tk_append.specs.FileText.{IsFile}
 use Rattle.tk_append.specs.Restored.{groups_in, IsKept}
+use Rattle.tk_append.specs.Log.{AreGroups}
+use Rattle.tk_append.specs.FairPast.{IsFairPast}
 use Rattle.tk_append.proofs.Restoring.{reads_back}
+use Rattle.tk_append.proofs.FairPasts.{fair_more}
 use Rattle.tk_hash.specs.Seek.{KnowsHeads, IsShelf}
+use Rattle.tk_hash.specs.Fair.{KeepsFair}
 use Rattle.tk_hash.specs.Hash.{groups_held, KeepsGroups, map_in, HashStands, HashSafe, HashStood}
-use Rattle.tk_hash.specs.HashLaws.{mapped, is_file, kept_held, records_are, kept_front, kept_each, hash_safe_less}
+use Rattle.tk_hash.specs.HashLaws.{mapped, is_file, kept_held, fair_held, legal_held, records_are, kept_front, fair_each}
 use Rattle.tk_hash.specs.declared.store.HashStore.{HashStore}
 use Rattle.tk_hash.specs.declared.shelf.Shelf.{Shelf}
 use Rattle.tk_hash.proofs.Keeping.{keeps_read}
+use Rattle.tk_hash.proofs.Fairness.{fair_read}
 
 -- what is known where a disk tells its bytes, and doesn't speak of them, is known where it goes on to tell them
 pub carried : {A B : Type 0} (o p : Option (List ℕ)) → is_some p ≡ is_some o → IfSome o (λ f. A) → (A → B) → IfSome p (λ f. B)
@@ -41,6 +47,14 @@ carried_both None None told first second go = tt
 carried_both None (Some g) told first second go = absurd (cc)
 carried_both (Some f) None told first second go = tt
 carried_both (Some f) (Some g) told first second go = go first second
+
+both_told : (o : Option (List ℕ)) (P Q : Type 0) → IfSome o (λ f. P) → IfSome o (λ f. Q) → IfSome o (λ f. P × Q)
+both_told None P Q p q = tt
+both_told (Some f) P Q p q = (p, q)
+
+pub always_told : (o : Option (List ℕ)) (P : Type 0) → P → IfSome o (λ f. P)
+always_told None P p = tt
+always_told (Some f) P p = p
 
 pub least_if : (b : Bool) (hard len : ℕ) → hard ≤ len → hard ≤ (if b then len else hard)
 least_if true hard len le = le
@@ -134,8 +148,9 @@ heads_known (Some f) h heads groups whole file are = record { whole = whole; new
 module _ {D : Type 0} (image : D → Option (List ℕ)) (may_leave : D → List ℕ → Type 0) (past : D → Past) where
   -- another hard number, and another disk that tells the same
   pub rested : (s t : HashStore D) (first : First) (since : List Group) (hard now : ℕ) (st : HashStands image may_leave past s first since hard) → SameFile image s t → KeepsShelf image s t.shelf → now ≤ length since
-      → (s.writable ≡ true → IfSome (image (log_disk s.log)) (λ f. (c : List ℕ) → may_leave (log_disk t.log) c → IsKept (log_head s.log) (st.groups ++ take now since) c)) → HashStands image may_leave past t first since now
-  rested s t first since hard now st same shelf within kept = record {
+      → (s.writable ≡ true → IfSome (image (log_disk s.log)) (λ f. (c : List ℕ) → may_leave (log_disk t.log) c → IsKept (log_head s.log) (st.groups ++ take now since) c))
+      → (s.writable ≡ true → IfSome (image (log_disk s.log)) (λ f. IsFairPast (log_head s.log) (st.groups ++ since) (past (log_disk t.log)))) → HashStands image may_leave past t first since now
+  rested s t first since hard now st same shelf within kept fair = record {
     groups = st.groups;
     held = st.held;
     records_first = st.records_first;
@@ -157,6 +172,7 @@ module _ {D : Type 0} (image : D → Option (List ℕ)) (may_leave : D → List 
     unmarked = rw (same.writable, same.bytes, same.closing, same.end, same.count, same.next) st.unmarked;
     shelf = rw (same.bytes, same.head) (shelf_on (image (log_disk s.log)) (λ f. IsFile (log_head s.log) f (st.groups ++ since)) _ _ (is_file image may_leave past s first since hard st) (shelf (st.groups ++ since)) st.shelf);
     kept = rw (same.writable, same.bytes, same.head) kept;
+    fair = rw (same.writable, same.bytes, same.head) fair;
   }
 
   -- the heads in memory are those of its groups
@@ -167,12 +183,6 @@ module _ {D : Type 0} (image : D → Option (List ℕ)) (may_leave : D → List 
   -- and those of a disk that was lent
   pub heads_at : (s : HashStore D) (lent : D) (h : StaticHead) (heads : List ℕ) → IsWhole (HashStands image may_leave past) s → lent ≡ log_disk s.log → h ≡ log_head s.log → heads ≡ s.heads.items → KnowsHeads (image lent) h heads
   heads_at s lent h heads w at head same = rw (at, head, same) w.3.heads
-
-  -- a reading
-  pub read_on : (s t : HashStore D) (first : First) (since : List Group) (hard : ℕ) → SameFile image s t → KeepsShelf image s t.shelf → Within (may_leave (log_disk s.log)) (may_leave (log_disk t.log))
-      → HashStands image may_leave past s first since hard → HashStands image may_leave past t first since hard
-  read_on s t first since hard same shelf within st =
-      rested s t first since hard hard st same shelf st.synced (λ may. IfSome_then (image (log_disk s.log)) (st.kept may) (λ f kept c left. kept c (within c left)))
 
   -- where the disk tells, the records are those of the groups
   pub map_is : (s : HashStore D) (first : First) (since : List Group) (hard : ℕ) → HashStands image may_leave past s first since hard → map_in image s ≡ option_map (λ f. replay Hash since first.records) (image (log_disk s.log))
@@ -217,61 +227,83 @@ module _ {D : Type 0} (image : D → Option (List ℕ)) (may_leave : D → List 
       (IfSome_then (image (log_disk s.log)) st.count (λ f count file. count)))
 
   module _ (moment : D → ℕ) (left_since : D → ℕ → List ℕ → Type 0) (left_with : D → ℕ → Past × List ℕ → Type 0) where
+    -- a reading
+    pub read_on : (s t : HashStore D) (first : First) (since : List Group) (hard : ℕ) → SameFile image s t → KeepsShelf image s t.shelf → OnlyReads may_leave moment left_since past left_with (log_disk s.log) (log_disk t.log)
+        → HashStands image may_leave past s first since hard → HashStands image may_leave past t first since hard
+    read_on s t first since hard same shelf still st =
+        rested s t first since hard hard st same shelf st.synced (λ may. IfSome_then (image (log_disk s.log)) (st.kept may) (λ f kept c left. kept c (still.crash c left)))
+        (λ may. IfSome_then (image (log_disk s.log)) (st.fair may) (λ f fair. subst (λ (p : Past). IsFairPast (log_head s.log) (st.groups ++ since) p) (sym still.past) fair))
+
     pub still_at : (lent old new : D) → lent ≡ old → OnlyReads may_leave moment left_since past left_with lent new → OnlyReads may_leave moment left_since past left_with old new
     still_at lent old new at still = subst (λ (d : D). OnlyReads may_leave moment left_since past left_with d new) at still
 
     pub still_on : (lent old new last : D) → lent ≡ old → last ≡ new → OnlyReads may_leave moment left_since past left_with lent new → OnlyReads may_leave moment left_since past left_with old last
     still_on lent old new last at same still = subst (λ (d : D). OnlyReads may_leave moment left_since past left_with old d) (sym same) (still_at lent old new at still)
 
-    -- what is safe stays so where the groups that were synchronised are kept
-    pub safe_on : (s t : HashStore D) (since_when n : ℕ) (first : First) (since : List Group) (hard : ℕ) → HashStood image may_leave past moment left_since left_with s since_when n first since hard → log_head t.log ≡ log_head s.log → t.writable ≡ s.writable
-        → is_some (image (log_disk t.log)) ≡ is_some (image (log_disk s.log)) → KeepsGroups may_leave moment left_since (log_head s.log) (groups_held first.held ++ take hard since) (log_disk s.log) (log_disk t.log)
-        → HashSafe image left_since left_with t since_when first since n
-    safe_on s t since_when n first since hard stood head writable told keeps =
-        let st = stood.stands in
-        let h : StaticHead = log_head s.log in
-        let kept : t.writable ≡ true → IfSome (image (log_disk t.log)) (λ f. (c : List ℕ) → left_since (log_disk t.log) since_when c → IsKept h (groups_held first.held ++ take n since) c) = λ may.
-        let can : s.writable ≡ true = sym writable ∙ may in
-        carried_both (image (log_disk s.log)) (image (log_disk t.log)) told (stood.safe.kept can) (kept_held image may_leave past s first since hard st can)
-        (λ past kept c left. elim (keeps.since kept since_when c stood.before left) [ inl was ↦ past c was | inr is ↦ kept_front h (groups_held first.held) since n hard c stood.least st.synced is ]) in
-        record {
-          within = stood.safe.within;
-          each = λ may. rw head (kept_each (image (log_disk t.log)) (left_since (log_disk t.log) since_when) h (groups_held first.held) since n st.header st.generation stood.safe.within (kept may));
-          kept = λ may. rw head (kept may);
-        }
+    module _ (since_with : (d : D) (t : ℕ) (x : Past × List ℕ) → left_with d t x → left_since d t x.1) where
+      -- what is safe stays so where the groups that were synchronised are kept, and the past stays fair
+      pub safe_as : (s t : HashStore D) (since_when n : ℕ) (first : First) (since more : List Group) (hard : ℕ) → HashStood image may_leave past moment left_since left_with s since_when n first since hard
+          → log_head t.log ≡ log_head s.log → t.writable ≡ s.writable → is_some (image (log_disk t.log)) ≡ is_some (image (log_disk s.log)) → KeepsGroups may_leave moment left_since (log_head s.log) (groups_held first.held ++ take hard since) (log_disk s.log) (log_disk t.log)
+          → (s.writable ≡ true → IfSome (image (log_disk s.log)) (λ f. KeepsFair past moment left_with (log_head s.log) (groups_held first.held ++ since) more (log_disk s.log) (log_disk t.log)))
+          → AreGroups 0 (2 ^ 64) (groups_held first.held ++ (since ++ more)) → HashSafe image left_since left_with t since_when first (since ++ more) n
+      safe_as s t since_when n first since more hard stood head writable told keeps fair_on legal =
+          let st = stood.stands in
+          let h : StaticHead = log_head s.log in
+          let held : List Group = groups_held first.held in
+          let o : Option (List ℕ) = image (log_disk s.log) in
+          let new : Option (List ℕ) = image (log_disk t.log) in
+          let within : n ≤ length (since ++ more) = omega (arith, stood.safe.within, length-append since more) in
+          let can : t.writable ≡ true → s.writable ≡ true = λ may. sym writable ∙ may in
+          let kept : t.writable ≡ true → IfSome new (λ f. (c : List ℕ) → left_since (log_disk t.log) since_when c → IsKept h (held ++ take n (since ++ more)) c) = λ may.
+          carried_both o new told (stood.safe.kept (can may)) (kept_held image may_leave past s first since hard st (can may))
+          (λ was kept c left. subst (λ (l : List Group). IsKept h (held ++ l) c) (sym (take-append-le n since more stood.safe.within))
+              (elim (keeps.since kept since_when c stood.before left) [ inl before ↦ was c before | inr is ↦ kept_front h held since n hard c stood.least st.synced is ])) in
+          let fair : t.writable ≡ true → IfSome new (λ f. (x : Past × List ℕ) → left_with (log_disk t.log) since_when x → IsFairPast h (held ++ (since ++ more)) x.0) = λ may.
+          carried_both o new told (both_told o _ _ (stood.safe.fair (can may)) (fair_held image may_leave past s first since hard st (can may))) (fair_on (can may))
+          (λ was keeps_fair x left. subst (λ (l : List Group). IsFairPast h l x.0) (append_assoc held since more)
+              (elim (keeps_fair.since was.1 since_when x stood.before left) [ inl before ↦ fair_more h (held ++ since) more x.0 (was.0 x before) | inr is ↦ is ])) in
+          record {
+            within = within;
+            each = λ may. rw head (fair_each new (left_since (log_disk t.log) since_when) (left_with (log_disk t.log) since_when) h held (since ++ more) n st.header st.generation within legal (since_with (log_disk t.log) since_when) (kept may) (fair may));
+            fair = λ may. rw head (fair may);
+            kept = λ may. rw head (kept may);
+          }
 
-    -- what stood does so on, where what it stands for now is known
-    pub stood_as : (s t : HashStore D) (since_when n : ℕ) (first : First) (since more : List Group) (hard now : ℕ) → HashStood image may_leave past moment left_since left_with s since_when n first since hard → HashStands image may_leave past t first (since ++ more) now → hard ≤ now
-        → log_head t.log ≡ log_head s.log → t.writable ≡ s.writable → is_some (image (log_disk t.log)) ≡ is_some (image (log_disk s.log)) → KeepsGroups may_leave moment left_since (log_head s.log) (groups_held first.held ++ take hard since) (log_disk s.log) (log_disk t.log)
-        → HashStood image may_leave past moment left_since left_with t since_when n first (since ++ more) now
-    stood_as s t since_when n first since more hard now st stands le head writable told keeps = record {
-      stands = stands;
-      safe = hash_safe_less image left_since left_with t since_when first since more n n (omega arith) (safe_on s t since_when n first since hard st head writable told keeps);
-      least = omega (arith, st.least, le);
-      before = omega (arith, st.before, keeps.later);
-    }
+      -- what stood does so on, where what it stands for now is known
+      pub stood_as : (s t : HashStore D) (since_when n : ℕ) (first : First) (since more : List Group) (hard now : ℕ) → HashStood image may_leave past moment left_since left_with s since_when n first since hard → HashStands image may_leave past t first (since ++ more) now → hard ≤ now
+          → log_head t.log ≡ log_head s.log → t.writable ≡ s.writable → is_some (image (log_disk t.log)) ≡ is_some (image (log_disk s.log)) → KeepsGroups may_leave moment left_since (log_head s.log) (groups_held first.held ++ take hard since) (log_disk s.log) (log_disk t.log)
+          → (s.writable ≡ true → IfSome (image (log_disk s.log)) (λ f. KeepsFair past moment left_with (log_head s.log) (groups_held first.held ++ since) more (log_disk s.log) (log_disk t.log)))
+          → HashStood image may_leave past moment left_since left_with t since_when n first (since ++ more) now
+      stood_as s t since_when n first since more hard now st stands le head writable told keeps fair_on = record {
+        stands = stands;
+        safe = safe_as s t since_when n first since more hard st head writable told keeps fair_on (legal_held image may_leave past t first (since ++ more) now stands);
+        least = omega (arith, st.least, le);
+        before = omega (arith, st.before, keeps.later);
+      }
 
-    pub safe_as : (s t : HashStore D) (since_when n : ℕ) (first : First) (since more : List Group) (hard : ℕ) → HashStood image may_leave past moment left_since left_with s since_when n first since hard
-        → log_head t.log ≡ log_head s.log → t.writable ≡ s.writable → is_some (image (log_disk t.log)) ≡ is_some (image (log_disk s.log)) → KeepsGroups may_leave moment left_since (log_head s.log) (groups_held first.held ++ take hard since) (log_disk s.log) (log_disk t.log)
-        → HashSafe image left_since left_with t since_when first (since ++ more) n
-    safe_as s t since_when n first since more hard st head writable told keeps =
-        hash_safe_less image left_since left_with t since_when first since more n n (omega arith) (safe_on s t since_when n first since hard st head writable told keeps)
+      -- the same without a group
+      pub safe_kept : (s t : HashStore D) (since_when n : ℕ) (first : First) (since : List Group) (hard : ℕ) → HashStood image may_leave past moment left_since left_with s since_when n first since hard
+          → log_head t.log ≡ log_head s.log → t.writable ≡ s.writable → is_some (image (log_disk t.log)) ≡ is_some (image (log_disk s.log)) → KeepsGroups may_leave moment left_since (log_head s.log) (groups_held first.held ++ take hard since) (log_disk s.log) (log_disk t.log)
+          → (s.writable ≡ true → IfSome (image (log_disk s.log)) (λ f. KeepsFair past moment left_with (log_head s.log) (groups_held first.held ++ since) [] (log_disk s.log) (log_disk t.log)))
+          → HashSafe image left_since left_with t since_when first (since ++ []) n
+      safe_kept s t since_when n first since hard st head writable told keeps fair_on =
+          safe_as s t since_when n first since [] hard st head writable told keeps fair_on
+          (subst (λ (l : List Group). AreGroups 0 (2 ^ 64) (groups_held first.held ++ l)) (sym (append-nil since)) (legal_held image may_leave past s first since hard st.stands))
 
-    pub stood_kept : (s t : HashStore D) (since_when n : ℕ) (first : First) (since : List Group) (hard now : ℕ) → HashStood image may_leave past moment left_since left_with s since_when n first since hard → HashStands image may_leave past t first since now → hard ≤ now
-        → log_head t.log ≡ log_head s.log → t.writable ≡ s.writable → is_some (image (log_disk t.log)) ≡ is_some (image (log_disk s.log)) → KeepsGroups may_leave moment left_since (log_head s.log) (groups_held first.held ++ take hard since) (log_disk s.log) (log_disk t.log)
-        → HashStood image may_leave past moment left_since left_with t since_when n first since now
-    stood_kept s t since_when n first since hard now st stands le head writable told keeps = record {
-      stands = stands;
-      safe = safe_on s t since_when n first since hard st head writable told keeps;
-      least = omega (arith, st.least, le);
-      before = omega (arith, st.before, keeps.later);
-    }
+      pub stood_kept : (s t : HashStore D) (since_when n : ℕ) (first : First) (since : List Group) (hard now : ℕ) → HashStood image may_leave past moment left_since left_with s since_when n first since hard → HashStands image may_leave past t first since now → hard ≤ now
+          → log_head t.log ≡ log_head s.log → t.writable ≡ s.writable → is_some (image (log_disk t.log)) ≡ is_some (image (log_disk s.log)) → KeepsGroups may_leave moment left_since (log_head s.log) (groups_held first.held ++ take hard since) (log_disk s.log) (log_disk t.log)
+          → (s.writable ≡ true → IfSome (image (log_disk s.log)) (λ f. KeepsFair past moment left_with (log_head s.log) (groups_held first.held ++ since) [] (log_disk s.log) (log_disk t.log)))
+          → HashStood image may_leave past moment left_since left_with t since_when n first since now
+      stood_kept s t since_when n first since hard now st stands le head writable told keeps fair_on = record {
+        stands = stands;
+        safe = subst (λ (l : List Group). HashSafe image left_since left_with t since_when first l n) (append-nil since) (safe_kept s t since_when n first since hard st head writable told keeps fair_on);
+        least = omega (arith, st.least, le);
+        before = omega (arith, st.before, keeps.later);
+      }
 
-    pub stood_on : (s t : HashStore D) (since_when n : ℕ) (first : First) (since : List Group) (hard : ℕ) → SameFile image s t → KeepsShelf image s t.shelf → OnlyReads may_leave moment left_since past left_with (log_disk s.log) (log_disk t.log)
-        → HashStood image may_leave past moment left_since left_with s since_when n first since hard → HashStood image may_leave past moment left_since left_with t since_when n first since hard
-    stood_on s t since_when n first since hard same shelf still st = record {
-      stands = read_on s t first since hard same shelf still.crash st.stands;
-      safe = safe_on s t since_when n first since hard st same.head same.writable (ap is_some same.bytes) (keeps_read may_leave moment left_since (log_head s.log) (groups_held first.held ++ take hard since) (log_disk s.log) (log_disk t.log) still);
-      least = st.least;
-      before = omega (arith, st.before, still.time.later);
-    }
+      pub stood_on : (s t : HashStore D) (since_when n : ℕ) (first : First) (since : List Group) (hard : ℕ) → SameFile image s t → KeepsShelf image s t.shelf → OnlyReads may_leave moment left_since past left_with (log_disk s.log) (log_disk t.log)
+          → HashStood image may_leave past moment left_since left_with s since_when n first since hard → HashStood image may_leave past moment left_since left_with t since_when n first since hard
+      stood_on s t since_when n first since hard same shelf still st =
+          stood_kept s t since_when n first since hard hard st (read_on s t first since hard same shelf still st.stands) (omega arith) same.head same.writable (ap is_some same.bytes)
+          (keeps_read may_leave moment left_since (log_head s.log) (groups_held first.held ++ take hard since) past left_with (log_disk s.log) (log_disk t.log) still)
+          (λ may. always_told (image (log_disk s.log)) _ (fair_read past moment left_with (log_head s.log) may_leave left_since (groups_held first.held ++ since) (log_disk s.log) (log_disk t.log) still))

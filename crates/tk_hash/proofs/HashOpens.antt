@@ -7,7 +7,7 @@ use Rattle.std.proofs.Math.Nat.{mod-eq_of_lt}
 use Rattle.std.proofs.Math.Pow.{pow_mono}
 use Rattle.std.proofs.lemmas.List.{append-nil, length-replicate, get_or-replicate}
 use Rattle.std.proofs.lemmas.Option.{IfSome_then}
-use Rattle.tk_disk.specs.Past.{Past}
+use Rattle.tk_disk.specs.Past.{Past, settled_on}
 use Rattle.tk_disk.specs.Crash.{Only}
 use Rattle.tk_model.specs.declared.record.ShardOf.{ShardOf}
 use Rattle.tk_model.specs.declared.record.Group.{Group}
@@ -19,6 +19,9 @@ use Rattle.tk_block.proofs.Groups.{end_behind}
 use Rattle.tk_append.specs.Log.{closed_text}
 use Rattle.tk_append.specs.LogParts.{log_disk, log_head, log_end, with_closing, open_mark}
 use Rattle.tk_append.specs.FileText.{text_of, IsFile}
+use Rattle.tk_append.specs.FairPast.{IsFairPast}
+use Rattle.tk_append.proofs.FairPasts.{fair_settled}
+use Rattle.tk_hash.proofs.Fairness.{has_groups}
 use Rattle.tk_append.specs.Counted.{HasCounted}
 use Rattle.tk_append.specs.declared.log.GroupLog.{GroupLog}
 use Rattle.tk_append.specs.declared.read.CountedLog.{CountedLog}
@@ -64,6 +67,10 @@ written_there None old h size is told written = tt
 written_there (Some f) None h size is told written = absurd (cc)
 written_there (Some f) (Some g) h size is told written = let same : f ≡ closed_text h [] 0 = cc in same ∙ sym (closed_is h [] size 0 0 is refl)
 
+settled_fair : (o : Option (List ℕ)) (h : StaticHead) (groups : List Group) (p : Past) → IfSome o (λ f. IsFile h f groups) → IfSome o (λ f. p ≡ settled_on f) → IfSome o (λ f. IsFairPast h groups p)
+settled_fair None h groups p file settled = tt
+settled_fair (Some f) h groups p file settled = subst (λ (q : Past). IsFairPast h groups q) (sym settled) (fair_settled h groups f (has_groups h f groups file))
+
 module _ {D : Type 0} (image : D → Option (List ℕ)) (may_leave : D → List ℕ → Type 0) (past : D → Past) where
   pub closed_header : (log : GroupLog D) (c : Closing) (heads : List ℕ) (groups : List Group) → IsClosedLog image log c heads groups → IfSome (image (log_disk log)) (λ f. 64 ≤ length f)
   closed_header log c heads groups is = IfSome_then (image (log_disk log)) is.text
@@ -76,6 +83,7 @@ module _ {D : Type 0} (image : D → Option (List ℕ)) (may_leave : D → List 
     pub open_bytes : writable ≡ true → image (log_disk new) ≡ option_map (with_closing open_mark) (image (log_disk log))
     pub open_closing : writable ≡ true → now ≡ open_mark
     pub durable : writable ≡ true → IfSome (image (log_disk new)) (λ f. Only f (may_leave (log_disk new)))
+    pub settled : writable ≡ true → IfSome (image (log_disk new)) (λ f. past (log_disk new) ≡ settled_on f)
 
   opened_text : (w : Bool) (log new : GroupLog D) (closing now : Closing) (heads : List ℕ) (groups : List Group) → IsClosedLog image log closing heads groups → IsOpened w log new closing now → IfSome (image (log_disk new)) (λ f. f ≡ text_of (log_head log) now groups)
   opened_text true log new closing now heads groups is o =
@@ -115,6 +123,7 @@ module _ {D : Type 0} (image : D → Option (List ℕ)) (may_leave : D → List 
         unmarked = λ no. always (image (log_disk s.log)) _ (o.read_closing no ∙ closing_of closing (log_end s.log) s.count s.next (is.size ∙ sym end) (sym count) (sym next));
         shelf = shelf_none (image (log_disk s.log)) (log_head s.log) (groups ++ []) s.shelf shelf;
         kept = λ may. rw (head, same) (only_kept (image (log_disk s.log)) h groups (may_leave (log_disk s.log)) file (o.durable may));
+        fair = λ may. rw (head, same) (settled_fair (image (log_disk s.log)) h groups (past (log_disk s.log)) file (o.settled may));
       }
 
   -- a file that was read and counted

@@ -5,6 +5,7 @@ pub mod Chains
 pub mod Counted
 pub mod Ended
 pub mod Extents
+pub mod Fairness
 pub mod Fields
 pub mod Filled
 pub mod Fronts

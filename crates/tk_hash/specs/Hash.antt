@@ -17,7 +17,9 @@ use Rattle.tk_append.specs.Chains.{HeadsAre}
 use Rattle.tk_append.specs.declared.log.GroupLog.{GroupLog}
 use Rattle.tk_append.specs.Log.{AreGroups, blocks_of}
 use Rattle.tk_append.specs.LogParts.{log_disk, log_head, log_end, open_mark, IsReady}
-use Rattle.tk_append.specs.Restored.{groups_in, restored_groups, IsUntorn, IsKept}
+use Rattle.tk_append.specs.Restored.{groups_in, restored_groups, IsKept}
+use Rattle.tk_append.specs.FairPast.{IsFairPast}
+use Rattle.tk_append.specs.Untorn.{IsUntornBy}
 use Rattle.tk_append.specs.FileText.{text_of, IsFile}
 use Rattle.tk_hash.specs.Chain.{cost_in}
 use Rattle.tk_hash.specs.Plan.{with_heads, FitHeads}
@@ -151,14 +153,17 @@ module _ {D : Type 0} where
     pub shelf : IfSome (image (log_disk s.log)) (λ f. IsShelf (log_head s.log) (groups ++ since) s.shelf)
     -- a crash leaves the groups that were synchronised
     pub kept : s.writable ≡ true → IfSome (image (log_disk s.log)) (λ f. (c : List ℕ) → may_leave (log_disk s.log) c → IsKept (log_head s.log) (groups ++ take hard since) c)
+    -- nothing was written since the last hard synchronisation but the groups at their places, heads and the closing part
+    pub fair : s.writable ≡ true → IfSome (image (log_disk s.log)) (λ f. IsFairPast (log_head s.log) (groups ++ since) (past (log_disk s.log)))
 
-  -- Of a file that was opened for writing: whatever is written later, an untorn image since the time restores to the groups
-  -- of the opening and a front of those since, at least n of them.
+  -- Of a file that was opened for writing, at each moment since the time: an image that is untorn by what had been written then
+  -- restores to the groups of the opening and a front of those since, at least n of them.
   pub record HashSafe (image : D → Option (List ℕ)) (left_since : D → ℕ → List ℕ → Type 0) (left_with : D → ℕ → Past × List ℕ → Type 0) (s : HashStore D) (t : ℕ) (first : First) (since : List Group) (n : ℕ) : Type 0 where
     pub within : n ≤ length since
-    pub each : s.writable ≡ true → IfSome (image (log_disk s.log)) (λ f. (c : List ℕ) (more : List Group) → left_since (log_disk s.log) t c
-        → AreGroups 0 (2 ^ 64) (groups_held first.held ++ (since ++ more)) → IsUntorn (log_head s.log) (groups_held first.held ++ (since ++ more)) c
-        → RestoresTo (groups_held first.held) (since ++ more) n c)
+    pub each : s.writable ≡ true → IfSome (image (log_disk s.log)) (λ f. (x : Past × List ℕ) → left_with (log_disk s.log) t x → IsUntornBy (log_head s.log) x.0 x.1
+        → RestoresTo (groups_held first.held) since n x.1)
+    -- nothing had been written then but the groups at their places, heads and the closing part
+    pub fair : s.writable ≡ true → IfSome (image (log_disk s.log)) (λ f. (x : Past × List ℕ) → left_with (log_disk s.log) t x → IsFairPast (log_head s.log) (groups_held first.held ++ since) x.0)
     -- each image since the time, untorn or not, has the header and the blocks of the groups of the opening and of the first n since
     pub kept : s.writable ≡ true → IfSome (image (log_disk s.log)) (λ f. (c : List ℕ) → left_since (log_disk s.log) t c → IsKept (log_head s.log) (groups_held first.held ++ take n since) c)
 

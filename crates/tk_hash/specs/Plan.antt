@@ -6,6 +6,7 @@ use Rattle.std.specs.BTreeMap.{BTreeMap, get}
 use Rattle.std.proofs.Math.ListN.{set}
 use Rattle.tk_model.specs.declared.record.Order.TheVariants.{Hash}
 use Rattle.tk_model.specs.declared.record.Pair.{Pair}
+use Rattle.tk_model.specs.declared.record.Group.{Group}
 use Rattle.tk_model.specs.declared.record.Change.{Change}
 use Rattle.tk_model.specs.declared.record.Change.TheVariants as changes
 use Rattle.tk_model.specs.Records.{put}
@@ -14,6 +15,7 @@ use Rattle.tk_disk.specs.Past.{Past}
 use Rattle.tk_disk.specs.Crash.{Torn, Follows, LeavesOnly}
 use Rattle.tk_append.specs.declared.log.GroupLog.{GroupLog}
 use Rattle.tk_append.specs.LogParts.{log_disk, log_head, log_end}
+use Rattle.tk_hash.specs.Fair.{KeepsFair}
 use Rattle.tk_hash.specs.declared.plan.NewHead.{NewHead}
 use Rattle.tk_hash.specs.declared.plan.NewHeads.{NewHeads}
 use Rattle.tk_hash.specs.declared.plan.NewHeads.TheVariants.{Cleared, Renewed}
@@ -44,6 +46,8 @@ pub record Puts {D : Type 0} (image : D → Option (List ℕ)) (may_leave : D �
   pub taken_same : taken (log_disk new) ≡ taken (log_disk old)
   pub crash : Follows (Torn 64 (8 * 2 ^ (log_head old).p)) (may_leave (log_disk old)) (may_leave (log_disk new))
   pub time : LeavesOnly moment left_since (log_disk old) (log_disk new) (λ c. (d : List ℕ) × may_leave (log_disk old) d × Torn 64 (8 * 2 ^ (log_head old).p) d c)
+  -- heads alone were written
+  pub fair : (groups : List Group) → KeepsFair past moment left_with (log_head old) groups [] (log_disk old) (log_disk new)
 
 -- the newest of these places in a bucket; before any, the place that was found
 abbrev pub placed_in : List NewHead → (bucket found : ℕ) → ℕ

@@ -2,6 +2,7 @@ ghost use Rattle.std.specs.Prelude.{◌≡◌, ◌+◌, ◌≤◌, ◌<◌, ◌^
 ghost use Rattle.std.specs.Option.{is_some, option_map};
 ghost use Rattle.tk_disk.specs.Crash.{Torn, Only, OnlyReads, LeavesOnly};
 ghost use Rattle.tk_disk.specs.Disk.{Rose, HasCause};
+ghost use Rattle.tk_disk.specs.Past.{settled_on};
 ghost use Rattle.tk_model.specs.declared.record.Group.{Group};
 ghost use Rattle.tk_model.specs.declared.error.OpenError.TheVariants as OpenError;
 ghost use Rattle.tk_append.specs.Opening.{first_fault};
@@ -79,6 +80,7 @@ fn begin<D: Disk>(
     ensures done { writable ≡ false → IsOk result }
     ensures durable { writable ≡ true → OnOk result (IfSome (D.image (log_disk log.new)) (λ f. Only f (D.may_leave (log_disk log.new)))) }
     ensures time { LeavesOnly D.moment D.left_since (log_disk log.old) (log_disk log.new) (λ c. (d : List ℕ) × D.may_leave (log_disk log.old) d × Torn 32 32 d c) }
+    ensures settled { writable ≡ true → OnOk result (IfSome (D.image (log_disk log.new)) (λ f. D.past (log_disk log.new) ≡ settled_on f)) }
 {
     if !writable {
         return Ok(closing);

@@ -16,6 +16,7 @@ ghost use Rattle.tk_append.specs.Log.{blocks_of};
 ghost use Rattle.tk_append.specs.LogParts.{log_disk, log_head, log_end};
 ghost use Rattle.tk_append.specs.FileText.{text_with, IsFile};
 ghost use Rattle.tk_hash.specs.declared.plan.NewHeads.TheVariants.{Cleared};
+ghost use Rattle.tk_hash.specs.Fair.{KeepsFair};
 ghost use Rattle.tk_hash.specs.Seek.{KnowsHeads};
 ghost use Rattle.tk_hash.specs.Plan.{with_new, with_heads, AllBelow, FitHeads, Puts};
 
@@ -189,6 +190,7 @@ pub(crate) fn put_heads<D: Disk>(log: &mut GroupLog<D>, heads: &NewHeads) -> Res
     ensures cause { HasDiskCause (D.fault_count (log_disk log.old)) (D.fault_count (log_disk log.new)) result }
     ensures crash { Follows (Torn 64 (8 * 2 ^ (log_head log.old).p)) (D.may_leave (log_disk log.old)) (D.may_leave (log_disk log.new)) }
     ensures time { LeavesOnly D.moment D.left_since (log_disk log.old) (log_disk log.new) (λ c. (d : List ℕ) × D.may_leave (log_disk log.old) d × Torn 64 (8 * 2 ^ (log_head log.old).p) d c) }
+    ensures fair { (groups : List Group) → KeepsFair D.past D.moment D.left_with (log_head log.old) groups [] (log_disk log.old) (log_disk log.new) }
 {
     match heads {
         NewHeads::Cleared => put_zeros(log, &ZEROS),

@@ -76,6 +76,7 @@ fn told<T>(answer: Result<T, DiskError>) -> Result<T, StoreError>
 
 impl<D: Disk> HashStore<D> {
     ghost use Rattle.tk_hash.specs.Hash.{hash_disk, hash_head, hash_closing, hash_nature, hash_shown, groups_held, IsStaged, HashStands, HashStood, KeepsGroups, opening};
+    ghost use Rattle.tk_hash.specs.Fair.{KeepsFair};
 
     /// Makes a group of these changes ready.
     fn stage(&mut self, changes: &ChangeList) -> Result<Staged, StoreError>
@@ -124,6 +125,10 @@ impl<D: Disk> HashStore<D> {
             → OnOk result (HashStands D.image D.may_leave D.past self.new first (since ++ record { number = number; changes = changes } ∷ []) hard) }
         ensures kept { (first : First) (since : List Group) (hard : ℕ) → HashStands D.image D.may_leave D.past self.old first since hard
             → KeepsGroups D.may_leave D.moment D.left_since (hash_head self.old) (groups_held first.held ++ take hard since) (hash_disk self.old) (hash_disk self.new) }
+        ensures fair { (changes : List Changed) → IsStaged D.image self.old changes staged
+            → (first : First) (since : List Group) (hard : ℕ) → HashStands D.image D.may_leave D.past self.old first since hard
+            → KeepsFair D.past D.moment D.left_with (hash_head self.old) (groups_held first.held ++ since)
+                (record { number = number; changes = changes } ∷ []) (hash_disk self.old) (hash_disk self.new) }
         ensures size { (changes : List Changed) → IsStaged D.image self.old changes staged
             → OnOk result ((hash_shown D.image self.new).size ≡ (hash_shown D.image self.old).size + sum_by (change_extent 1) changes) }
         ensures floor { OnOk result ((hash_shown D.image self.new).floor ≡ number + 1) }
@@ -154,6 +159,9 @@ impl<D: Disk> HashStore<D> {
             → OnOk result (HashStands D.image D.may_leave D.past self.new first since (length since)) }
         ensures kept { (first : First) (since : List Group) (hard : ℕ) → HashStands D.image D.may_leave D.past self.old first since hard
             → KeepsGroups D.may_leave D.moment D.left_since (hash_head self.old) (groups_held first.held ++ take hard since) (hash_disk self.old) (hash_disk self.new) }
+        ensures fair { (first : First) (since : List Group) (hard : ℕ) → HashStands D.image D.may_leave D.past self.old first since hard
+            → IfSome (D.image (hash_disk self.old)) (λ _. KeepsFair D.past D.moment D.left_with (hash_head self.old)
+                (groups_held first.held ++ since) [] (hash_disk self.old) (hash_disk self.new)) }
         ensures file { (groups since : List Group) (hard : ℕ) → HashStands D.image D.may_leave D.past self.old (opening groups) since hard
             → OnOk result (IfSome (D.image (hash_disk self.old)) (λ _. D.image (hash_disk self.new) ≡ Some (closed_text (hash_head self.old) (groups ++ since) next))) }
         ensures durable { OnOk result (IfSome (D.image (hash_disk self.new)) (λ f. Only f (D.may_leave (hash_disk self.new)))) }
@@ -237,9 +245,9 @@ impl<D: Disk> SeqStore for HashStore<D> {
 
     ghost synced = { λ s first since hard st. st.synced };
 
-    ghost stood_now = { hash_stood_now D.image D.may_leave D.past D.moment D.left_since D.left_with D.only_now };
+    ghost stood_now = { hash_stood_now D.image D.may_leave D.past D.moment D.left_since D.left_with D.only_now D.only_with D.since_with };
 
-    ghost stood_less = { hash_stood_less D.image D.left_since D.may_leave D.moment };
+    ghost stood_less = { hash_stood_less D.image D.left_since D.left_with D.may_leave D.past D.moment };
 
     ghost stood_stands = { λ s t n first since hard st. st.stands };
 

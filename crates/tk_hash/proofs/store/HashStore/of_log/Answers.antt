@@ -16,6 +16,7 @@ returns-in-Ok-clause-stands g c groups is =
       open_bytes = c.in-Ok.ensures.marked;
       open_closing = c.in-Ok.ensures.open;
       durable = c.in-Ok.ensures.durable;
+      settled = c.in-Ok.ensures.settled;
     })
     c.begin.ensures.head c.begin.ensures.end refl refl refl refl c.requires.buffer refl
 

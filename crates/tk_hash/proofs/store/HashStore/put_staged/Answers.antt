@@ -6,7 +6,7 @@ use Rattle.tk_block.specs.Text.{base_of}
 use Rattle.tk_append.specs.LogParts.{log_disk, log_head, log_end}
 use Rattle.tk_hash.proofs.Extents.{ends_sum}
 use Rattle.tk_hash.proofs.HashKeeps.{done, items-lent}
-use Rattle.tk_hash.proofs.HashGrows.{grown, length-with_heads, appended_keeps, put_keeps, length_there, base_within, still_there, puts_done}
+use Rattle.tk_hash.proofs.HashGrows.{grown, length-with_heads, appended_keeps, appended_fair, put_keeps, put_fair, length_there, base_within, still_there, puts_done}
 use Rattle.tk_hash.proofs.store.HashStore.put_staged.Goals as goal
 
 pub append-requires-clause-here : goal.append-requires-clause-here
@@ -51,6 +51,23 @@ returns-clause-kept g c first since hard st =
     (c.append.ensures.crash c.requires.staged.0 is.links is.ready) (c.append.ensures.time c.requires.staged.0 is.links is.ready))
     c.put_heads.ensures.crash c.put_heads.ensures.time
 
+pub returns-in_err-told-clause-fair : goal.returns-in_err-told-clause-fair
+returns-in_err-told-clause-fair g c changes is first since hard st =
+    appended_fair g.D.Disk.image g.D.Disk.may_leave g.D.Disk.past g.D.Disk.moment g.D.Disk.left_since g.D.Disk.left_with c.args.self.now first since hard st _ c.args.number changes is.links
+    (c.append.ensures.past changes is.links is.ready) (c.append.ensures.pasts changes is.links is.ready)
+
+pub returns-in_err-told-2-clause-fair : goal.returns-in_err-told-2-clause-fair
+returns-in_err-told-2-clause-fair g c changes is first since hard st =
+    put_fair g.D.Disk.image g.D.Disk.may_leave g.D.Disk.past g.D.Disk.moment g.D.Disk.left_since g.D.Disk.left_with c.args.self.now first since hard st _ _ _ c.args.number changes c.append.ensures.head
+    (appended_fair g.D.Disk.image g.D.Disk.may_leave g.D.Disk.past g.D.Disk.moment g.D.Disk.left_since g.D.Disk.left_with c.args.self.now first since hard st _ c.args.number changes is.links
+    (c.append.ensures.past changes is.links is.ready) (c.append.ensures.pasts changes is.links is.ready)) c.put_heads.ensures.fair
+
+pub returns-clause-fair : goal.returns-clause-fair
+returns-clause-fair g c changes is first since hard st =
+    put_fair g.D.Disk.image g.D.Disk.may_leave g.D.Disk.past g.D.Disk.moment g.D.Disk.left_since g.D.Disk.left_with c.args.self.now first since hard st _ _ _ c.args.number changes c.append.ensures.head
+    (appended_fair g.D.Disk.image g.D.Disk.may_leave g.D.Disk.past g.D.Disk.moment g.D.Disk.left_since g.D.Disk.left_with c.args.self.now first since hard st _ c.args.number changes is.links
+    (c.append.ensures.past changes is.links is.ready) (c.append.ensures.pasts changes is.links is.ready)) c.put_heads.ensures.fair
+
 pub returns-clause-stands : goal.returns-clause-stands
 returns-clause-stands g c changes is fits alone first since hard st =
     let s = c.args.self.now in
@@ -61,7 +78,7 @@ returns-clause-stands g c changes is fits alone first since hard st =
     refl refl refl refl refl refl (items-lent s.heads c.set_heads.new.heads (ap length set ∙ length-with_heads c.args.staged.heads s.heads.items) ∙ set) refl refl (c.put_heads.ensures.told ∙ c.append.ensures.told)
     (done c.append.result c.told.result c.in_ok-told.field-0 c.told.ensures.err (search rules) (c.append.ensures.written changes is.links is.ready))
     (puts_done c.put_heads.result c.told-2.result c.in_ok-told-2.field-0 _ _ (log_head s.log) _ c.args.staged.heads c.append.ensures.head c.told-2.ensures.err (search rules) c.put_heads.ensures.written)
-    (returns-clause-kept g c first since hard st)
+    (returns-clause-kept g c first since hard st) (returns-clause-fair g c changes is first since hard st)
 
 pub returns-clause-size : goal.returns-clause-size
 returns-clause-size g c changes is =

@@ -6,20 +6,22 @@ use Rattle.tk_store.specs.Store.{Nature}
 use Rattle.tk_append.specs.Log.{closed_text}
 use Rattle.tk_append.specs.LogParts.{log_disk, log_head}
 use Rattle.tk_hash.specs.Hash.{HashStands, opening}
-use Rattle.tk_hash.proofs.HashKeeps.{stood_as, safe_as}
+use Rattle.tk_hash.proofs.HashKeeps.{stood_as, safe_kept}
 use Rattle.tk_hash.proofs.Ended.{open_unended, on_err}
 use Rattle.tk_hash.proofs.HashGrows.{restaged, map_kept, read_file, as_written, as_read}
 use Rattle.tk_hash.proofs.store.HashStoreSeqStore.close.Goals as goal
 
 pub returns-in_err-end_file-clause-safe : goal.returns-in_err-end_file-clause-safe
 returns-in_err-end_file-clause-safe g c t n first since hard st =
-    safe_as g.D.Disk.image g.D.Disk.may_leave g.D.Disk.past g.D.Disk.moment g.D.Disk.left_since g.D.Disk.left_with g.met.D.Disk.since_with c.args.self.now c.end_file.new.self t n first since [] hard st c.end_file.ensures.head (ap (λ (k : Nature). k.writable) c.end_file.ensures.nature) c.end_file.ensures.told
+    safe_kept g.D.Disk.image g.D.Disk.may_leave g.D.Disk.past g.D.Disk.moment g.D.Disk.left_since g.D.Disk.left_with g.met.D.Disk.since_with c.args.self.now c.end_file.new.self t n first since hard st c.end_file.ensures.head (ap (λ (k : Nature). k.writable) c.end_file.ensures.nature) c.end_file.ensures.told
     (c.end_file.ensures.kept first since hard (restaged g.D.Disk.image g.D.Disk.may_leave g.D.Disk.past c.args.self.now first since hard st.stands None true (λ (no : true ≡ false). absurd cc)))
+    (λ may. c.end_file.ensures.fair first since hard (restaged g.D.Disk.image g.D.Disk.may_leave g.D.Disk.past c.args.self.now first since hard st.stands None true (λ (no : true ≡ false). absurd cc)))
 
 pub returns-in_ok-end_file-clause-safe : goal.returns-in_ok-end_file-clause-safe
 returns-in_ok-end_file-clause-safe g c t n first since hard st =
-    safe_as g.D.Disk.image g.D.Disk.may_leave g.D.Disk.past g.D.Disk.moment g.D.Disk.left_since g.D.Disk.left_with g.met.D.Disk.since_with c.args.self.now c.end_file.new.self t n first since [] hard st c.end_file.ensures.head (ap (λ (k : Nature). k.writable) c.end_file.ensures.nature) c.end_file.ensures.told
+    safe_kept g.D.Disk.image g.D.Disk.may_leave g.D.Disk.past g.D.Disk.moment g.D.Disk.left_since g.D.Disk.left_with g.met.D.Disk.since_with c.args.self.now c.end_file.new.self t n first since hard st c.end_file.ensures.head (ap (λ (k : Nature). k.writable) c.end_file.ensures.nature) c.end_file.ensures.told
     (c.end_file.ensures.kept first since hard (restaged g.D.Disk.image g.D.Disk.may_leave g.D.Disk.past c.args.self.now first since hard st.stands None true (λ (no : true ≡ false). absurd cc)))
+    (λ may. c.end_file.ensures.fair first since hard (restaged g.D.Disk.image g.D.Disk.may_leave g.D.Disk.past c.args.self.now first since hard st.stands None true (λ (no : true ≡ false). absurd cc)))
 
 pub returns-in_ok-end_file-clause-stands : goal.returns-in_ok-end_file-clause-stands
 returns-in_ok-end_file-clause-stands g c first since hard st =
@@ -39,6 +41,7 @@ returns-in_ok-end_file-clause-since g c t n first since hard st =
     stood_as g.D.Disk.image g.D.Disk.may_leave g.D.Disk.past g.D.Disk.moment g.D.Disk.left_since g.D.Disk.left_with g.met.D.Disk.since_with c.args.self.now c.end_file.new.self t n first since [] hard (length (since ++ [])) st (returns-in_ok-end_file-clause-stands g c first since hard st.stands) within
     c.end_file.ensures.head (ap (λ (k : Nature). k.writable) c.end_file.ensures.nature) c.end_file.ensures.told
     (c.end_file.ensures.kept first since hard (restaged g.D.Disk.image g.D.Disk.may_leave g.D.Disk.past c.args.self.now first since hard st.stands None true (λ (no : true ≡ false). absurd cc)))
+    (λ may. c.end_file.ensures.fair first since hard (restaged g.D.Disk.image g.D.Disk.may_leave g.D.Disk.past c.args.self.now first since hard st.stands None true (λ (no : true ≡ false). absurd cc)))
 
 pub returns-in_ok-end_file-clause-file : goal.returns-in_ok-end_file-clause-file
 returns-in_ok-end_file-clause-file g c groups since hard st =
