@@ -78,7 +78,7 @@ module _ {D : Type 0} (past : D → Past) (moment : D → ℕ) (left_with : D �
     since = λ fair t x le left. ⊎_elim (λ was. inl was) (λ is. inr (go fair x.0 is)) (only.before t x le left);
   }
 
-  pub fair_read : (may_leave : D → List ℕ → Type 0) (past : D → Past) (left_since : D → ℕ → List ℕ → Type 0) (left_with : D → ℕ → Past × List ℕ → Type 0) (groups : List Group) (old new : D) → OnlyReads may_leave moment left_since past left_with old new → KeepsFair past moment left_with h groups [] old new
+  pub fair_read : (may_leave : D → List ℕ → Type 0) (left_since : D → ℕ → List ℕ → Type 0) (groups : List Group) (old new : D) → OnlyReads may_leave moment left_since past left_with old new → KeepsFair past moment left_with h groups [] old new
   fair_read may_leave left_since groups old new still =
       let same : (p : Past) → p ≡ past old → IsFairPast h groups (past old) → IsFairPast h (groups ++ []) p = λ p is fair. fair_nil h groups p (subst (λ (q : Past). IsFairPast h groups q) (sym is) fair) in
       record {

@@ -229,7 +229,7 @@ module _ {D : Type 0} (image : D → Option (List ℕ)) where
   -- a store that was ended with a number has it in the closing part that stands in the file
   pub hash_ended : (may_leave : D → List ℕ → Type 0) (past : D → Past) (s : HashStore D) (first : First) (since : List Group) (hard n : ℕ) → HashStands image may_leave past s first since hard → (hash_shown image s).ended ≡ Some n
       → IfSome (image (hash_disk s)) (λ f. (c : Closing) × (c.next ≡ n) × (f ≡ text_of (log_head s.log) c (groups_held first.held ++ since)))
-  hash_ended may_leave s first since hard n st ended =
+  hash_ended may_leave past s first since hard n st ended =
       let next : s.closing.next ≡ n = sized (s.closing.size == 0) s.closing.next n (chosen (s.closed && s.writable) (ended_with s.closing) n ended) in
       IfSome_then (image (log_disk s.log)) st.there (λ f there. (s.closing, next, subst (λ (gs : List Group). f ≡ text_of (log_head s.log) s.closing (gs ++ since)) (sym (ap groups_held st.held)) there))
 

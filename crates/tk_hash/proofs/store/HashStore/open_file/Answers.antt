@@ -36,7 +36,7 @@ returns-clause-back_time g c =
 
 pub returns-clause-reads_still : goal.returns-clause-reads_still
 returns-clause-reads_still g c = λ no.
-    IfOk-weaker c.of_log.result _ _ (λ s still. reads_joined g.D.Disk.may_leave g.D.Disk.moment g.D.Disk.left_since g.D.Disk.past g.D.Disk.left_with g.met.D.Disk.counts_now met.D.Disk.counts_with c.args.disk (log_disk c.in_ok-log.field-0.log) (log_disk s.log) c.in_ok-log.ensures.still still) (c.of_log.ensures.reads_still no)
+    IfOk-weaker c.of_log.result _ _ (λ s still. reads_joined g.D.Disk.may_leave g.D.Disk.moment g.D.Disk.left_since g.D.Disk.past g.D.Disk.left_with g.met.D.Disk.counts_now g.met.D.Disk.counts_with c.args.disk (log_disk c.in_ok-log.field-0.log) (log_disk s.log) c.in_ok-log.ensures.still still) (c.of_log.ensures.reads_still no)
 
 pub returns-clause-back : goal.returns-clause-back
 returns-clause-back g c = err_weaker c.of_log.result _ _ (λ u fails other. absurd (other fails.0)) c.of_log.ensures.fails
