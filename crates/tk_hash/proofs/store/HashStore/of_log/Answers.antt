@@ -18,7 +18,7 @@ returns-in-Ok-clause-stands g c groups is =
       durable = c.in-Ok.ensures.durable;
       settled = c.in-Ok.ensures.settled;
     })
-    c.begin.ensures.head c.begin.ensures.end refl refl refl refl c.requires.buffer refl
+    c.begin.ensures.head c.begin.ensures.end refl refl refl refl c.new.ensures c.requires.buffer refl
 
 pub returns-in-Err-clause-back_time : goal.returns-in-Err-clause-back_time
 returns-in-Err-clause-back_time g c =
