@@ -40,7 +40,7 @@ use Rattle.tk_hash.specs.Plan.{with_heads}
 use Rattle.tk_hash.specs.declared.shelf.Shelf.{Shelf}
 use Rattle.tk_hash.specs.Seek.{KnowsHeads, IsShelf}
 use Rattle.tk_hash.proofs.Keeping.{front_ends, keeps_torn, keeps_joined}
-use Rattle.tk_hash.proofs.HashKeeps.{SameFile, KeepsShelf, carried, rested, shelf_same, heads_known, heads_stand, done, map_is}
+use Rattle.tk_hash.proofs.HashKeeps.{SameFile, KeepsShelf, carried, rested, shelf_same, heads_known, heads_stand, key_known, key_stands, none_known, done, map_is}
 use Rattle.tk_hash.proofs.HashTexts.{PutsHeads, file_more, heads_behind, closed_there, closed_now, closed_still}
 
 -- a header's p
@@ -171,7 +171,7 @@ module _ {D : Type 0} (image : D → Option (List ℕ)) (may_leave : D → List 
     -- what waits, and that close was called, is no part of what a store stands for
     pub restaged : (o : Option Staged) (b : Bool) → (b ≡ false → s.closed ≡ false) → HashStands image may_leave (record s { staged = o; closed = b }) first since hard
     restaged o b unclosed = rested image may_leave s (record s { staged = o; closed = b }) first since hard hard st
-        (record { head = refl; end = refl; closing = refl; count = refl; next = refl; last = refl; writable = refl; closed = unclosed; heads = refl; buffer = refl; bytes = refl }) (shelf_same image s) st.synced st.kept
+        (record { head = refl; end = refl; closing = refl; count = refl; next = refl; last = refl; writable = refl; closed = unclosed; heads = refl; found = λ known. known; buffer = refl; bytes = refl }) (shelf_same image s) st.synced st.kept
 
     -- where its groups end
     pub groups_end : log_end s.log ≡ end_of (base_of (log_head s.log).p) (bodies_of (groups_held first.held ++ since))
@@ -252,12 +252,12 @@ module _ {D : Type 0} (image : D → Option (List ℕ)) (may_leave : D → List 
   -- the store after a group
   pub grown : (moment : D → ℕ) (left_since : D → ℕ → List ℕ → Type 0) (s t : HashStore D) (g : Staged) (n : ℕ) (cs : List Change) (mid : Option (List ℕ)) (first : First) (since : List Group) (hard : ℕ)
       → (is : IsStaged image s cs g) → AllFit cs → IsClearAlone cs → s.writable ≡ true → floor_of s.next s.last ≤ n → n < 2 ^ 64 → HashStands image may_leave s first since hard
-      → log_head t.log ≡ log_head s.log → log_end t.log ≡ end_of (log_end s.log) (group_bodies n cs) → t.count ≡ g.count → t.last ≡ Some n → t.next ≡ s.next → t.writable ≡ s.writable → t.closing ≡ s.closing → t.closed ≡ s.closed → t.heads.items ≡ with_heads g.heads s.heads.items → t.buffer.items ≡ s.buffer.items → t.shelf ≡ None
+      → log_head t.log ≡ log_head s.log → log_end t.log ≡ end_of (log_end s.log) (group_bodies n cs) → t.count ≡ g.count → t.last ≡ Some n → t.next ≡ s.next → t.writable ≡ s.writable → t.closing ≡ s.closing → t.closed ≡ s.closed → t.heads.items ≡ with_heads g.heads s.heads.items → t.found.present ≡ None → t.buffer.items ≡ s.buffer.items → t.shelf ≡ None
       → is_some (image (log_disk t.log)) ≡ is_some (image (log_disk s.log)) → mid ≡ option_map (λ f. f ++ group_text (record { number = n; changes = cs }) (log_end s.log) is.links) (image (log_disk s.log))
       → PutsHeads mid (image (log_disk t.log)) (log_head s.log) g.heads
       → KeepsGroups may_leave moment left_since (log_head s.log) (groups_held first.held ++ take hard since) (log_disk s.log) (log_disk t.log)
       → HashStands image may_leave t first (since ++ record { number = n; changes = cs } ∷ []) hard
-  grown moment left_since s t g n cs mid first since hard is fits alone may above small st head end count last next writable closing closed heads buffer shelf told appended puts keeps =
+  grown moment left_since s t g n cs mid first since hard is fits alone may above small st head end count last next writable closing closed heads found buffer shelf told appended puts keeps =
       let more : Group = record { number = n; changes = cs } in
       let h : StaticHead = log_head s.log in
       let o : Option (List ℕ) = image (log_disk s.log) in
@@ -295,6 +295,7 @@ module _ {D : Type 0} (image : D → Option (List ℕ)) (may_leave : D → List 
         heads = subst (λ (k : StaticHead). KnowsHeads (image (log_disk t.log)) k t.heads.items) (sym head)
             (subst (KnowsHeads (image (log_disk t.log)) h) (sym heads)
             (heads_known (image (log_disk t.log)) h (with_heads g.heads s.heads.items) (all ++ more ∷ []) (length-with_heads g.heads s.heads.items ∙ st.heads.whole) grown_file newest));
+        found = none_known (image (log_disk t.log)) (log_head t.log) t.found found;
         mark = λ _ unclosed. closing ∙ st.mark may (sym closed ∙ unclosed);
         no_group = λ no. absurd (cc (no, writable, may));
         there = subst (λ (k : StaticHead). IfSome (image (log_disk t.log)) (λ f. f ≡ text_of k t.closing (st.groups ++ (since ++ more ∷ [])))) (sym head)
@@ -321,9 +322,9 @@ module _ {D : Type 0} (image : D → Option (List ℕ)) (may_leave : D → List 
 
   -- the store after another closing part
   pub marked : (s t : HashStore D) (new : Closing) (first : First) (since : List Group) (hard : ℕ) → s.writable ≡ true → HashStands image may_leave s first since hard → log_head t.log ≡ log_head s.log → log_end t.log ≡ log_end s.log → t.closing ≡ new
-      → t.count ≡ s.count → t.next ≡ s.next → t.last ≡ s.last → t.writable ≡ s.writable → t.heads.items ≡ s.heads.items → t.buffer.items ≡ s.buffer.items → t.shelf ≡ s.shelf → t.closed ≡ true
+      → t.count ≡ s.count → t.next ≡ s.next → t.last ≡ s.last → t.writable ≡ s.writable → t.heads.items ≡ s.heads.items → t.found ≡ s.found → t.buffer.items ≡ s.buffer.items → t.shelf ≡ s.shelf → t.closed ≡ true
       → image (log_disk t.log) ≡ option_map (with_closing new) (image (log_disk s.log)) → IfSome (image (log_disk t.log)) (λ f. Only f (may_leave (log_disk t.log))) → HashStands image may_leave t first since (length since)
-  marked s t new first since hard may st head end closing count next last writable heads buffer shelf closed written only =
+  marked s t new first since hard may st head end closing count next last writable heads found buffer shelf closed written only =
       let h : StaticHead = log_head s.log in
       let o : Option (List ℕ) = image (log_disk s.log) in
       let all : List Group = st.groups ++ since in
@@ -347,6 +348,8 @@ module _ {D : Type 0} (image : D → Option (List ℕ)) (may_leave : D → List 
         buffer = rw buffer st.buffer;
         heads = rw (head, heads)
             (heads_known (image (log_disk t.log)) h s.heads.items all st.heads.whole file (carried o (image (log_disk t.log)) told (heads_stand image may_leave s first since hard st) (λ are. are)));
+        found = rw (head, found)
+            (key_known (image (log_disk t.log)) h s.found all file (carried o (image (log_disk t.log)) told (key_stands image may_leave s first since hard st) (λ is. is)));
         mark = λ _ unclosed. absurd (cc (closed, unclosed));
         no_group = rw writable st.no_group;
         there = rw (head, closing) texts;

@@ -3,17 +3,17 @@ use Rattle.std.proofs.Common.{◌≡◌, inl, inr, ℕ, ◌≤◌, ◌^◌, Bool
 use Rattle.std.specs.Prelude.{Option, Some, None, IfSome, Result, Ok, Err, OnOk, OnErr, if◌then◌else◌}
 use Rattle.std.specs.Option.{option_map, is_some}
 use Rattle.std.proofs.lemmas.Option.{IfSome_then}
-use Rattle.std.proofs.lemmas.List.{take_at}
 use Rattle.std.specs.Vec.{with_items}
 use Rattle.std.specs.declared.vec.Vec.{Vec}
 use Rattle.tk_disk.specs.Crash.{Within, OnlyReads}
 use Rattle.tk_model.specs.declared.record.Order.TheVariants.{Hash}
 use Rattle.tk_model.specs.declared.record.Group.{Group}
-use Rattle.tk_model.specs.Records.{replay}
+use Rattle.tk_model.specs.declared.record.Pair.{Pair}
+use Rattle.tk_model.specs.Records.{find, replay}
 use Rattle.tk_disk.specs.declared.disk.DiskError.{DiskError}
 use Rattle.tk_store.specs.declared.error.StoreError.{StoreError}
 use Rattle.tk_store.specs.declared.error.StoreError.TheVariants as errors
-use Rattle.tk_store.specs.Store.{First, IsWhole}
+use Rattle.tk_store.specs.Store.{First, IsWhole, Gives}
 use Rattle.tk_block.specs.declared.head.StaticHead.{StaticHead}
 use Rattle.tk_append.specs.Chains.{HeadsAre}
 use Rattle.tk_append.specs.Log.{blocks_of}
@@ -21,7 +21,8 @@ use Rattle.tk_append.specs.LogParts.{log_disk, log_head, log_end}
 use Rattle.tk_append.specs.FileText.{IsFile}
 use Rattle.tk_append.specs.Restored.{groups_in, IsKept}
 use Rattle.tk_append.proofs.Restoring.{reads_back}
-use Rattle.tk_hash.specs.Seek.{KnowsHeads, IsShelf}
+use Rattle.tk_hash.specs.Seek.{KnowsHeads, IsFound, KnowsKey, IsShelf}
+use Rattle.tk_hash.specs.declared.found.FoundKey.{FoundKey}
 use Rattle.tk_hash.specs.Hash.{groups_held, KeepsGroups, map_in, HashStands, HashSafe, HashStood}
 use Rattle.tk_hash.specs.HashLaws.{mapped, is_file, kept_held, records_are, kept_front, kept_each, hash_safe_less}
 use Rattle.tk_hash.specs.declared.store.HashStore.{HashStore}
@@ -61,13 +62,14 @@ pub record SameFile {D : Type 0} (image : D → Option (List ℕ)) (s t : HashSt
   pub writable : t.writable ≡ s.writable
   pub closed : t.closed ≡ false → s.closed ≡ false
   pub heads : t.heads.items ≡ s.heads.items
+  pub found : KnowsKey (image (log_disk s.log)) (log_head s.log) s.found → KnowsKey (image (log_disk s.log)) (log_head s.log) t.found
   pub buffer : length t.buffer.items ≡ length s.buffer.items
   pub bytes : image (log_disk t.log) ≡ image (log_disk s.log)
 
 -- a store whose disk was lent and read
 pub same_read : {D : Type 0} (image : D → Option (List ℕ)) (s t : HashStore D) (lent : D) → lent ≡ log_disk s.log → (t.closed ≡ false → s.closed ≡ false) → log_head t.log ≡ log_head s.log → log_end t.log ≡ log_end s.log → t.closing ≡ s.closing → t.count ≡ s.count → t.next ≡ s.next → t.last ≡ s.last
-    → t.writable ≡ s.writable → t.heads.items ≡ s.heads.items → length t.buffer.items ≡ length s.buffer.items → image (log_disk t.log) ≡ image lent → SameFile image s t
-same_read image s t lent at closed head end closing count next last writable heads buffer bytes = record {
+    → t.writable ≡ s.writable → t.heads.items ≡ s.heads.items → (KnowsKey (image (log_disk s.log)) (log_head s.log) s.found → KnowsKey (image (log_disk s.log)) (log_head s.log) t.found) → length t.buffer.items ≡ length s.buffer.items → image (log_disk t.log) ≡ image lent → SameFile image s t
+same_read image s t lent at closed head end closing count next last writable heads found buffer bytes = record {
   head = head;
   end = end;
   closing = closing;
@@ -77,6 +79,7 @@ same_read image s t lent at closed head end closing count next last writable hea
   writable = writable;
   closed = closed;
   heads = heads;
+  found = found;
   buffer = buffer;
   bytes = bytes ∙ ap image at;
 }
@@ -95,10 +98,6 @@ shelf_same image s groups = shelf_always (image (log_disk s.log)) (λ f. IsFile 
 -- a vector that was lent as a slice is as long as it was
 pub length-lent : {X Z : Type 0} (v : Vec X Z) (ws : List X) → length (with_items v ws).items ≡ length v.items
 length-lent v ws = sym (with_items v ws).ok.0 ∙ v.ok.0
-
--- and has the items of the slice
-pub items-lent : {X Z : Type 0} (v : Vec X Z) (ws : List X) → length ws ≡ length v.items → (with_items v ws).items ≡ ws
-items-lent v ws long = take_at ws _ v.len (long ∙ sym v.ok.0)
 
 shelf_given : (o : Option (List ℕ)) (P : List ℕ → Type 0) (Q R : Type 0) → IfSome o (λ f. P f → Q → R) → IfSome o (λ f. Q) → IfSome o (λ f. P f → R)
 shelf_given None P Q R go was = tt
@@ -130,6 +129,33 @@ pub heads_known : (o : Option (List ℕ)) (h : StaticHead) (heads : List ℕ) (g
 heads_known None h heads groups whole file are = record { whole = whole; newest = tt }
 heads_known (Some f) h heads groups whole file are = record { whole = whole; newest = subst (λ (gs : List Group). HeadsAre h.p heads (blocks_of h gs)) (sym (reads_back h f groups file)) are }
 
+-- what was found, by the groups of a file
+pub key_in : (o : Option (List ℕ)) (h : StaticHead) (k : FoundKey) (groups : List Group) → KnowsKey o h k → IfSome o (λ f. IsFile h f groups → IsFound k (replay Hash groups []))
+key_in None h k groups know = tt
+key_in (Some f) h k groups know = λ file. subst (λ (gs : List Group). IsFound k (replay Hash gs [])) (reads_back h f groups file) know
+
+key_there : (o : Option (List ℕ)) (h : StaticHead) (k : FoundKey) (groups : List Group) → KnowsKey o h k → IfSome o (λ f. IsFile h f groups) → IfSome o (λ f. IsFound k (replay Hash groups []))
+key_there None h k groups know file = tt
+key_there (Some f) h k groups know file = key_in (Some f) h k groups know file
+
+-- and back
+pub key_known : (o : Option (List ℕ)) (h : StaticHead) (k : FoundKey) (groups : List Group) → IfSome o (λ f. IsFile h f groups) → IfSome o (λ f. IsFound k (replay Hash groups [])) → KnowsKey o h k
+key_known None h k groups file is = tt
+key_known (Some f) h k groups file is = subst (λ (gs : List Group). IsFound k (replay Hash gs [])) (sym (reads_back h f groups file)) is
+
+-- nothing was found yet
+pub none_known : (o : Option (List ℕ)) (h : StaticHead) (k : FoundKey) → k.present ≡ None → KnowsKey o h k
+none_known None h k none = tt
+none_known (Some f) h k none = subst (λ (p : Option Bool). IfSome p (λ there. there ≡ is_some (find k.key (replay Hash (groups_in h f) [])))) (sym none) tt
+
+unmapped : {A B : Type 0} (o : Option A) (g : A → B) (P : B → Type 0) → IfSome (option_map g o) P → IfSome o (λ x. P (g x))
+unmapped None g P holds = tt
+unmapped (Some x) g P holds = holds
+
+gives_there : (value : Option (List ℕ)) (old new : List ℕ) (there : Bool) → Gives value old new there → there ≡ is_some value
+gives_there None old new there is = is.0
+gives_there (Some v) old new there is = is.0
+
 module _ {D : Type 0} (image : D → Option (List ℕ)) (may_leave : D → List ℕ → Type 0) where
   -- another hard number, and another disk that tells the same
   pub rested : (s t : HashStore D) (first : First) (since : List Group) (hard now : ℕ) (st : HashStands image may_leave s first since hard) → SameFile image s t → KeepsShelf image s t.shelf → now ≤ length since
@@ -149,6 +175,7 @@ module _ {D : Type 0} (image : D → Option (List ℕ)) (may_leave : D → List 
     end_fits = rw same.end st.end_fits;
     buffer = rw same.buffer st.buffer;
     heads = rw (same.bytes, same.head, same.heads) st.heads;
+    found = rw (same.bytes, same.head) (same.found st.found);
     mark = λ may unclosed. same.closing ∙ st.mark (sym same.writable ∙ may) (same.closed unclosed);
     no_group = rw same.writable st.no_group;
     there = rw (same.bytes, same.head, same.closing) st.there;
@@ -162,6 +189,13 @@ module _ {D : Type 0} (image : D → Option (List ℕ)) (may_leave : D → List 
   pub heads_stand : (s : HashStore D) (first : First) (since : List Group) (hard : ℕ) (st : HashStands image may_leave s first since hard)
       → IfSome (image (log_disk s.log)) (λ f. HeadsAre (log_head s.log).p s.heads.items (blocks_of (log_head s.log) (st.groups ++ since)))
   heads_stand s first since hard st = heads_there (image (log_disk s.log)) (log_head s.log) s.heads.items (st.groups ++ since) st.heads (is_file image may_leave s first since hard st)
+
+  pub key_stands : (s : HashStore D) (first : First) (since : List Group) (hard : ℕ) (st : HashStands image may_leave s first since hard)
+      → IfSome (image (log_disk s.log)) (λ f. IsFound s.found (replay Hash (st.groups ++ since) []))
+  key_stands s first since hard st = key_there (image (log_disk s.log)) (log_head s.log) s.found (st.groups ++ since) st.found (is_file image may_leave s first since hard st)
+
+  pub key_at : (s : HashStore D) (lent : D) (h : StaticHead) → IsWhole (HashStands image may_leave) s → lent ≡ log_disk s.log → h ≡ log_head s.log → KnowsKey (image lent) h s.found
+  key_at s lent h w at head = rw (at, head) w.3.found
 
   -- and those of a disk that was lent
   pub heads_at : (s : HashStore D) (lent : D) (h : StaticHead) (heads : List ℕ) → IsWhole (HashStands image may_leave) s → lent ≡ log_disk s.log → h ≡ log_head s.log → heads ≡ s.heads.items → KnowsHeads (image lent) h heads
@@ -189,6 +223,16 @@ module _ {D : Type 0} (image : D → Option (List ℕ)) (may_leave : D → List 
       (subst (λ (k : StaticHead). IfSome (image lent) (λ f. IsFile k f groups → P lent (g k groups))) head (told groups)) in
       mapped (image (log_disk s.log)) (λ f. g (log_head s.log) (groups_in (log_head s.log) f)) (P (log_disk s.log))
       (told_file (image (log_disk s.log)) (log_head s.log) groups (λ gs. P (log_disk s.log) (g (log_head s.log) gs)) (is_file image may_leave s w.0 w.1 w.2 st) here)
+
+  -- a key that was looked up on a disk that was lent
+  pub key_given : (s : HashStore D) (lent : D) (h : StaticHead) (key old new : List ℕ) (there : Bool) (k : FoundKey) → IsWhole (HashStands image may_leave) s → lent ≡ log_disk s.log → h ≡ log_head s.log
+      → ((groups : List Group) → IfSome (image lent) (λ f. IsFile h f groups → Gives (find key (replay Hash groups [])) old new there))
+      → ((records : List Pair) → there ≡ is_some (find key records) → IsFound k records) → KnowsKey (image (log_disk s.log)) (log_head s.log) k
+  key_given s lent h key old new there k w at head given found =
+      IfSome_then (image (log_disk s.log))
+      (unmapped (image (log_disk s.log)) (λ f. replay Hash (groups_in (log_head s.log) f) []) (λ m. Gives (find key m) old new there)
+      (told_by s lent h w at head (λ h gs. replay Hash gs []) (λ d m. Gives (find key m) old new there) given))
+      (λ f is. found (replay Hash (groups_in (log_head s.log) f) []) (gives_there (find key (replay Hash (groups_in (log_head s.log) f) [])) old new there is))
 
   -- the same, where it rests on the shelf
   pub told_with : {B : Type 0} (s : HashStore D) (lent : D) (h : StaticHead) → IsWhole (HashStands image may_leave) s → lent ≡ log_disk s.log → h ≡ log_head s.log → (g : StaticHead → List Group → B) (P : B → Type 0)

@@ -24,7 +24,7 @@ use Rattle.tk_append.specs.declared.read.CountedLog.{CountedLog}
 use Rattle.tk_hash.specs.Hash.{floor_of, opening, IsClosedLog, HashStands}
 use Rattle.tk_hash.specs.HashLaws.{length-text_of, file_of}
 use Rattle.tk_hash.specs.declared.store.HashStore.{HashStore}
-use Rattle.tk_hash.proofs.HashKeeps.{heads_known}
+use Rattle.tk_hash.proofs.HashKeeps.{heads_known, none_known}
 use Rattle.tk_hash.proofs.HashGrows.{shelf_none, only_kept}
 use Rattle.tk_hash.proofs.HashTexts.{closed_is, closed_there}
 
@@ -84,8 +84,8 @@ module _ {D : Type 0} (image : D → Option (List ℕ)) (may_leave : D → List 
       (subst (λ (x : Option (List ℕ)). IfSome x (λ f. f ≡ text_of (log_head log) closing groups)) (sym (o.read_bytes refl)) is.text)
 
   pub opened : (s : HashStore D) (log : GroupLog D) (closing : Closing) (heads : List ℕ) (groups : List Group) → IsClosedLog image log closing heads groups → IsOpened s.writable log s.log closing s.closing → log_head s.log ≡ log_head log → log_end s.log ≡ log_end log
-      → s.count ≡ closing.count → s.next ≡ closing.next → s.last ≡ None → s.heads.items ≡ heads → 131072 ≤ length s.buffer.items → s.shelf ≡ None → HashStands image may_leave s (opening groups) [] 0
-  opened s log closing heads groups is o head end count next last heads_are buffer shelf =
+      → s.count ≡ closing.count → s.next ≡ closing.next → s.last ≡ None → s.heads.items ≡ heads → s.found.present ≡ None → 131072 ≤ length s.buffer.items → s.shelf ≡ None → HashStands image may_leave s (opening groups) [] 0
+  opened s log closing heads groups is o head end count next last heads_are found buffer shelf =
       let h : StaticHead = log_head log in
       let same : groups ++ [] ≡ groups = append-nil groups in
       let texts : IfSome (image (log_disk s.log)) (λ f. f ≡ text_of h s.closing groups) = opened_text s.writable log s.log closing s.closing heads groups is o in
@@ -107,6 +107,7 @@ module _ {D : Type 0} (image : D → Option (List ℕ)) (may_leave : D → List 
         end_fits = rw end is.fits;
         buffer = buffer;
         heads = rw (head, heads_are) (heads_known (image (log_disk s.log)) h heads groups is.heads_are.whole file (always (image (log_disk s.log)) _ is.heads_are));
+        found = none_known (image (log_disk s.log)) (log_head s.log) s.found found;
         mark = λ may unclosed. o.open_closing may;
         no_group = λ no. refl;
         there = rw (head, same) texts;

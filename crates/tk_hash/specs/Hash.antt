@@ -20,7 +20,7 @@ use Rattle.tk_append.specs.Restored.{groups_in, restored_groups, IsUntorn, IsKep
 use Rattle.tk_append.specs.FileText.{text_of, IsFile}
 use Rattle.tk_hash.specs.Chain.{cost_in}
 use Rattle.tk_hash.specs.Plan.{with_heads, FitHeads}
-use Rattle.tk_hash.specs.Seek.{KnowsHeads, IsShelf}
+use Rattle.tk_hash.specs.Seek.{KnowsHeads, KnowsKey, IsShelf}
 use Rattle.tk_hash.specs.declared.store.HashStore.{HashStore}
 use Rattle.tk_hash.specs.declared.store.Staged.{Staged}
 
@@ -140,6 +140,7 @@ module _ {D : Type 0} where
     pub end_fits : log_end s.log < 2 ^ 64
     pub buffer : 131072 ≤ length s.buffer.items
     pub heads : KnowsHeads (image (log_disk s.log)) (log_head s.log) s.heads.items
+    pub found : KnowsKey (image (log_disk s.log)) (log_head s.log) s.found
     -- a file that is written is marked as open until it is closed
     pub mark : s.writable ≡ true → s.closed ≡ false → s.closing ≡ open_mark
     -- a file that is read alone gets no group and keeps its closing part

@@ -7,9 +7,10 @@ ghost use Rattle.tk_model.specs.declared.record.Order.TheVariants.{Hash};
 ghost use Rattle.tk_model.specs.declared.record.Group.{Group};
 ghost use Rattle.tk_store.specs.Store.{HasCause, NeverFull};
 ghost use Rattle.tk_append.specs.FileText.{IsFile};
-ghost use Rattle.tk_hash.specs.Seek.{KnowsHeads};
+ghost use Rattle.tk_hash.specs.Seek.{KnowsHeads, KnowsKey};
 ghost use Rattle.tk_hash.specs.Plan.{mark_in, marked, told_there, count_after};
 
+use crate::found::FoundKey;
 use crate::links::key_of;
 use crate::seek::has_key;
 use std::alloc::Global;
@@ -48,17 +49,19 @@ fn mark_before(
     marks.put(mark)
 }
 
-/// Whether a key is there, by its mark or else by the file.
+/// Whether a key is there, by its mark, by the last look-up, or else by the file.
 fn was_there<D: Disk>(
     disk: &mut D,
     head: &StaticHead,
     heads: &[u64],
     buffer: &mut [u8],
     marks: &HashedRecords,
+    found: &FoundKey,
     key: &[u8],
 ) -> Result<bool, StoreError>
     requires p { head.now.p ≤ 24 }
     requires heads { KnowsHeads (D.image disk.old) head.now heads.now }
+    requires found { KnowsKey (D.image disk.old) head.now found.now }
     requires buffer { 131072 ≤ length buffer.old }
     ensures value { (groups : List Group) → IfSome (D.image disk.old) (λ f. IsFile head.now f groups
         → IfOk result (λ there. there ≡ told_there (find key.now marks.now) (is_some (find key.now (replay Hash groups []))))) }
@@ -71,7 +74,10 @@ fn was_there<D: Disk>(
 {
     match marks.get(key) {
         Some(mark) => Ok(!mark.is_empty()),
-        None => has_key(disk, head, heads, buffer, key),
+        None => match found.recall(key) {
+            Some(there) => Ok(there),
+            None => has_key(disk, head, heads, buffer, key),
+        },
     }
 }
 
@@ -106,10 +112,12 @@ pub(crate) fn count_changes<D: Disk>(
     heads: &[u64],
     count: u64,
     buffer: &mut [u8],
+    found: &FoundKey,
     changes: &[Change],
 ) -> Result<u64, StoreError>
     requires p { head.now.p ≤ 24 }
     requires heads { KnowsHeads (D.image disk.old) head.now heads.now }
+    requires found { KnowsKey (D.image disk.old) head.now found.now }
     requires buffer { 131072 ≤ length buffer.old }
     requires alone { HasNoClear changes.now }
     ensures count { (groups : List Group) → IfSome (D.image disk.old) (λ f. IsFile head.now f groups → count ≡ length (replay Hash groups [])
@@ -126,7 +134,7 @@ pub(crate) fn count_changes<D: Disk>(
     for i in 0..changes.len() {
         let change = &changes[i];
         mark_before(alloc, &mut marks, changes, i)?;
-        let there = was_there(disk, head, heads, buffer, &marks, key_of(change))?;
+        let there = was_there(disk, head, heads, buffer, &marks, found, key_of(change))?;
         count = counted(count, change, there)?;
     }
     Ok(count)

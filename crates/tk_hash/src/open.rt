@@ -10,6 +10,7 @@ ghost use Rattle.tk_append.specs.LogParts.{log_disk, log_head, log_end, with_clo
 ghost use Rattle.tk_append.specs.Read.{IsOutside};
 ghost use Rattle.tk_block.specs.Text.{is_static};
 
+use crate::found::FoundKey;
 use crate::store::HashStore;
 use std::alloc::Global;
 use tk_append::{CountedLog, GroupLog, read_counted, write_fresh};
@@ -248,6 +249,7 @@ impl<D: Disk> HashStore<D> {
                 limit,
                 heads,
                 buffer,
+                found: FoundKey::new(alloc),
                 shelf: None,
                 staged: None,
             }),

@@ -16,10 +16,11 @@ ghost use Rattle.tk_append.specs.Log.{blocks_of};
 ghost use Rattle.tk_append.specs.LogParts.{log_disk, log_head, log_end};
 ghost use Rattle.tk_append.specs.FileText.{text_with, IsFile};
 ghost use Rattle.tk_hash.specs.declared.plan.NewHeads.TheVariants.{Cleared};
-ghost use Rattle.tk_hash.specs.Seek.{KnowsHeads};
+ghost use Rattle.tk_hash.specs.Seek.{KnowsHeads, KnowsKey};
 ghost use Rattle.tk_hash.specs.Plan.{with_new, with_heads, AllBelow, FitHeads, Puts};
 
 use crate::counts::count_changes;
+use crate::found::FoundKey;
 use crate::links::chain_changes;
 use std::alloc::Global;
 use tk_append::GroupLog;
@@ -76,10 +77,12 @@ pub(crate) fn plan_changes<D: Disk>(
     end: u64,
     count: u64,
     buffer: &mut [u8],
+    found: &FoundKey,
     changes: &ChangeList,
 ) -> Result<Plan, StoreError>
     requires p { head.now.p ≤ 24 }
     requires heads { KnowsHeads (D.image disk.old) head.now heads.now }
+    requires found { KnowsKey (D.image disk.old) head.now found.now }
     requires buffer { 131072 ≤ length buffer.old }
     requires fit { AllFit changes.now }
     requires alone { IsClearAlone changes.now }
@@ -105,7 +108,7 @@ pub(crate) fn plan_changes<D: Disk>(
     }
     let mut chains = chain_changes(alloc, head.p, heads, end, changes)?;
     chains.settle(alloc)?;
-    let count = count_changes(alloc, disk, head, heads, count, buffer, changes)?;
+    let count = count_changes(alloc, disk, head, heads, count, buffer, found, changes)?;
     Ok(Plan {
         links: chains.links,
         heads: NewHeads::Renewed(chains.heads),

@@ -7,6 +7,7 @@ ghost use Rattle.tk_model.specs.declared.record.Change.{Change as Changed};
 ghost use Rattle.tk_store.specs.Store.{First, made, ended_by, extent_of as change_extent, HasCause, NeverFull, OkOrFault, UnlessFault, OnNoMemory, IsWhole, GivesInto, Keeps, KeepsSince, LeavesSafe, OnlyLooks, GoesOn};
 ghost use Rattle.tk_append.specs.Log.{closed_text};
 
+use crate::found::FoundKey;
 use crate::plan::{NewHeads, plan_changes, put_heads, set_heads};
 use crate::seek::{get_value, get_value_into};
 use crate::shelf::{Shelf, first_record, last_record};
@@ -44,6 +45,7 @@ pub struct HashStore<D: Disk> {
     pub(crate) heads: Vec<u64>,
     /// Room for a block's front, so that look-ups take no memory.
     pub(crate) buffer: Vec<u8>,
+    pub(crate) found: FoundKey,
     pub(crate) shelf: Option<Shelf>,
     pub(crate) staged: Option<Staged>,
 }
@@ -104,6 +106,7 @@ impl<D: Disk> HashStore<D> {
             end,
             self.count,
             &mut self.buffer,
+            &self.found,
             changes,
         )?;
         self.log.prepare(changes, &plan.links)?;
@@ -137,6 +140,7 @@ impl<D: Disk> HashStore<D> {
         ensures answers { OkOrFault result }
     {
         self.shelf = None;
+        self.found.forget();
         told(self.log.append(number))?;
         told(put_heads(&mut self.log, &staged.heads))?;
         set_heads(&mut self.heads, &staged.heads);
@@ -193,6 +197,7 @@ impl<D: Disk> HashStore<D> {
             limit: _,
             heads: _,
             buffer: _,
+            found: _,
             shelf: _,
             staged: _,
         } = self;
@@ -289,7 +294,7 @@ impl<D: Disk> SeqStore for HashStore<D> {
 
     fn get(&mut self, key: &[u8], out: &mut Bytes) -> Result<bool, StoreError> {
         let head = *self.log.head();
-        get_value(
+        let present = get_value(
             self.alloc,
             self.log.disk(),
             &head,
@@ -297,7 +302,9 @@ impl<D: Disk> SeqStore for HashStore<D> {
             &mut self.buffer,
             key,
             out,
-        )
+        )?;
+        self.found.remember(key, present);
+        Ok(present)
     }
 
     fn get_into(&mut self, key: &[u8], into: &mut [u8]) -> Result<Option<u32>, StoreError>

@@ -19,7 +19,7 @@ pub returns-clause-stands : goal.returns-clause-stands
 returns-clause-stands g c first since hard st =
     let s = c.args.self.now in
     marked g.D.Disk.image g.D.Disk.may_leave s _ (record { size = log_end s.log; count = s.count; next = c.args.next }) first since hard c.requires.writable st c.close_log.ensures.head c.close_log.ensures.end
-    (closing_by c.end.result (log_end s.log) s.count c.args.next _ refl (c.end.ensures ∙ c.close_log.ensures.end)) refl refl refl refl refl refl refl c.requires.closed
+    (closing_by c.end.result (log_end s.log) s.count c.args.next _ refl (c.end.ensures ∙ c.close_log.ensures.end)) refl refl refl refl refl refl refl refl c.requires.closed
     (done c.close_log.result c.told.result c.in_ok-told.field-0 c.told.ensures.err (search rules) c.close_log.ensures.written)
     (done c.close_log.result c.told.result c.in_ok-told.field-0 c.told.ensures.err (search rules) c.close_log.ensures.durable)
 

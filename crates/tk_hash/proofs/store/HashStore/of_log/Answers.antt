@@ -17,7 +17,7 @@ returns-in-Ok-clause-stands g c groups is =
       open_closing = c.in-Ok.ensures.open;
       durable = c.in-Ok.ensures.durable;
     })
-    c.begin.ensures.head c.begin.ensures.end refl refl refl refl c.requires.buffer refl
+    c.begin.ensures.head c.begin.ensures.end refl refl refl refl c.new.ensures c.requires.buffer refl
 
 pub returns-in-Err-clause-back_time : goal.returns-in-Err-clause-back_time
 returns-in-Err-clause-back_time g c =

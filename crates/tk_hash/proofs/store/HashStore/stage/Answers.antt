@@ -11,7 +11,7 @@ use Rattle.tk_append.specs.FileText.{IsFile}
 use Rattle.tk_append.specs.LogParts.{log_disk, log_head, log_end}
 use Rattle.tk_hash.specs.Plan.{with_heads, FitHeads}
 use Rattle.tk_hash.proofs.Extents.{ends_sum}
-use Rattle.tk_hash.proofs.HashKeeps.{same_read, shelf_same, still_at, still_on, read_on, stood_on, heads_at, length-lent}
+use Rattle.tk_hash.proofs.HashKeeps.{same_read, shelf_same, still_at, still_on, read_on, stood_on, heads_at, key_at, length-lent}
 use Rattle.tk_hash.proofs.HashGrows.{planned}
 use Rattle.tk_hash.proofs.store.HashStore.stage.Goals as goal
 
@@ -21,33 +21,36 @@ plan_changes-requires-clause-end g c = rw c.end-end.ensures (omega (arith, ends_
 pub plan_changes-requires-clause-heads : goal.plan_changes-requires-clause-heads
 plan_changes-requires-clause-heads g c = heads_at g.D.Disk.image g.D.Disk.may_leave c.args.self.now c.disk.result.now c.head.result.now c.deref.result.now c.requires.whole c.disk.ensures.value c.head.ensures c.deref.ensures.value
 
+pub plan_changes-requires-clause-found : goal.plan_changes-requires-clause-found
+plan_changes-requires-clause-found g c = key_at g.D.Disk.image g.D.Disk.may_leave c.args.self.now c.disk.result.now c.head.result.now c.requires.whole c.disk.ensures.value c.head.ensures
+
 pub prepare-requires-clause-end : goal.prepare-requires-clause-end
 prepare-requires-clause-end g c = omega (arith, ends_sum 0 (log_end c.args.self.now.log) c.args.changes.now, c.requires.end)
 
 pub returns-in_err-plan-clause-stands : goal.returns-in_err-plan-clause-stands
 returns-in_err-plan-clause-stands g c first since hard st =
     read_on g.D.Disk.image g.D.Disk.may_leave c.args.self.now _ first since hard
-    (same_read g.D.Disk.image c.args.self.now _ c.disk.result.now c.disk.ensures.value (λ unclosed. unclosed) refl refl refl refl refl refl refl refl (length-lent c.args.self.now.buffer c.plan_changes.new.buffer) c.plan_changes.ensures.image)
+    (same_read g.D.Disk.image c.args.self.now _ c.disk.result.now c.disk.ensures.value (λ unclosed. unclosed) refl refl refl refl refl refl refl refl (λ known. known) (length-lent c.args.self.now.buffer c.plan_changes.new.buffer) c.plan_changes.ensures.image)
     (shelf_same g.D.Disk.image c.args.self.now)
     (still_at g.D.Disk.image g.D.Disk.may_leave g.D.Disk.moment g.D.Disk.left_since _ _ _ c.disk.ensures.value c.plan_changes.ensures.still).crash st
 
 pub returns-in_err-plan-clause-since : goal.returns-in_err-plan-clause-since
 returns-in_err-plan-clause-since g c t n first since hard st =
     stood_on g.D.Disk.image g.D.Disk.may_leave g.D.Disk.moment g.D.Disk.left_since c.args.self.now _ t n first since hard
-    (same_read g.D.Disk.image c.args.self.now _ c.disk.result.now c.disk.ensures.value (λ unclosed. unclosed) refl refl refl refl refl refl refl refl (length-lent c.args.self.now.buffer c.plan_changes.new.buffer) c.plan_changes.ensures.image)
+    (same_read g.D.Disk.image c.args.self.now _ c.disk.result.now c.disk.ensures.value (λ unclosed. unclosed) refl refl refl refl refl refl refl refl (λ known. known) (length-lent c.args.self.now.buffer c.plan_changes.new.buffer) c.plan_changes.ensures.image)
     (shelf_same g.D.Disk.image c.args.self.now)
     (still_at g.D.Disk.image g.D.Disk.may_leave g.D.Disk.moment g.D.Disk.left_since _ _ _ c.disk.ensures.value c.plan_changes.ensures.still) st
 
 pub returns-in_err-prepare-clause-stands : goal.returns-in_err-prepare-clause-stands
 returns-in_err-prepare-clause-stands g c first since hard st =
     read_on g.D.Disk.image g.D.Disk.may_leave c.args.self.now _ first since hard
-    (same_read g.D.Disk.image c.args.self.now _ c.disk.result.now c.disk.ensures.value (λ unclosed. unclosed) c.prepare.ensures.head c.prepare.ensures.end refl refl refl refl refl refl (length-lent c.args.self.now.buffer c.plan_changes.new.buffer) (ap g.D.Disk.image c.prepare.ensures.disk ∙ c.plan_changes.ensures.image))
+    (same_read g.D.Disk.image c.args.self.now _ c.disk.result.now c.disk.ensures.value (λ unclosed. unclosed) c.prepare.ensures.head c.prepare.ensures.end refl refl refl refl refl refl (λ known. known) (length-lent c.args.self.now.buffer c.plan_changes.new.buffer) (ap g.D.Disk.image c.prepare.ensures.disk ∙ c.plan_changes.ensures.image))
     (shelf_same g.D.Disk.image c.args.self.now) (still_on g.D.Disk.image g.D.Disk.may_leave g.D.Disk.moment g.D.Disk.left_since _ _ _ _ c.disk.ensures.value c.prepare.ensures.disk c.plan_changes.ensures.still).crash st
 
 pub returns-in_err-prepare-clause-since : goal.returns-in_err-prepare-clause-since
 returns-in_err-prepare-clause-since g c t n first since hard st =
     stood_on g.D.Disk.image g.D.Disk.may_leave g.D.Disk.moment g.D.Disk.left_since c.args.self.now _ t n first since hard
-    (same_read g.D.Disk.image c.args.self.now _ c.disk.result.now c.disk.ensures.value (λ unclosed. unclosed) c.prepare.ensures.head c.prepare.ensures.end refl refl refl refl refl refl (length-lent c.args.self.now.buffer c.plan_changes.new.buffer) (ap g.D.Disk.image c.prepare.ensures.disk ∙ c.plan_changes.ensures.image))
+    (same_read g.D.Disk.image c.args.self.now _ c.disk.result.now c.disk.ensures.value (λ unclosed. unclosed) c.prepare.ensures.head c.prepare.ensures.end refl refl refl refl refl refl (λ known. known) (length-lent c.args.self.now.buffer c.plan_changes.new.buffer) (ap g.D.Disk.image c.prepare.ensures.disk ∙ c.plan_changes.ensures.image))
     (shelf_same g.D.Disk.image c.args.self.now) (still_on g.D.Disk.image g.D.Disk.may_leave g.D.Disk.moment g.D.Disk.left_since _ _ _ _ c.disk.ensures.value c.prepare.ensures.disk c.plan_changes.ensures.still) st
 
 pub returns-clause-staged : goal.returns-clause-staged
@@ -77,11 +80,11 @@ returns-clause-staged g c =
 pub returns-clause-stands : goal.returns-clause-stands
 returns-clause-stands g c first since hard st =
     read_on g.D.Disk.image g.D.Disk.may_leave c.args.self.now _ first since hard
-    (same_read g.D.Disk.image c.args.self.now _ c.disk.result.now c.disk.ensures.value (λ unclosed. unclosed) c.prepare.ensures.head c.prepare.ensures.end refl refl refl refl refl refl (length-lent c.args.self.now.buffer c.plan_changes.new.buffer) (ap g.D.Disk.image c.prepare.ensures.disk ∙ c.plan_changes.ensures.image))
+    (same_read g.D.Disk.image c.args.self.now _ c.disk.result.now c.disk.ensures.value (λ unclosed. unclosed) c.prepare.ensures.head c.prepare.ensures.end refl refl refl refl refl refl (λ known. known) (length-lent c.args.self.now.buffer c.plan_changes.new.buffer) (ap g.D.Disk.image c.prepare.ensures.disk ∙ c.plan_changes.ensures.image))
     (shelf_same g.D.Disk.image c.args.self.now) (still_on g.D.Disk.image g.D.Disk.may_leave g.D.Disk.moment g.D.Disk.left_since _ _ _ _ c.disk.ensures.value c.prepare.ensures.disk c.plan_changes.ensures.still).crash st
 
 pub returns-clause-since : goal.returns-clause-since
 returns-clause-since g c t n first since hard st =
     stood_on g.D.Disk.image g.D.Disk.may_leave g.D.Disk.moment g.D.Disk.left_since c.args.self.now _ t n first since hard
-    (same_read g.D.Disk.image c.args.self.now _ c.disk.result.now c.disk.ensures.value (λ unclosed. unclosed) c.prepare.ensures.head c.prepare.ensures.end refl refl refl refl refl refl (length-lent c.args.self.now.buffer c.plan_changes.new.buffer) (ap g.D.Disk.image c.prepare.ensures.disk ∙ c.plan_changes.ensures.image))
+    (same_read g.D.Disk.image c.args.self.now _ c.disk.result.now c.disk.ensures.value (λ unclosed. unclosed) c.prepare.ensures.head c.prepare.ensures.end refl refl refl refl refl refl (λ known. known) (length-lent c.args.self.now.buffer c.plan_changes.new.buffer) (ap g.D.Disk.image c.prepare.ensures.disk ∙ c.plan_changes.ensures.image))
     (shelf_same g.D.Disk.image c.args.self.now) (still_on g.D.Disk.image g.D.Disk.may_leave g.D.Disk.moment g.D.Disk.left_since _ _ _ _ c.disk.ensures.value c.prepare.ensures.disk c.plan_changes.ensures.still) st

@@ -25,15 +25,15 @@ returns-clause-looks g c = record {
   same_nature = search rules;
   same_shown = search rules;
   keeps = λ first since hard st.
-    read_on g.D.Disk.image g.D.Disk.may_leave c.args.self.now _ first since hard
-    (same_read g.D.Disk.image c.args.self.now _ c.disk.result.now c.disk.ensures.value (λ unclosed. unclosed) refl refl refl refl refl refl refl refl (length-lent c.args.self.now.buffer c.get_value_into.new.buffer) c.get_value_into.ensures.image)
-    (shelf_same g.D.Disk.image c.args.self.now)
-    (still_at g.D.Disk.image g.D.Disk.may_leave g.D.Disk.moment g.D.Disk.left_since _ _ _ c.disk.ensures.value c.get_value_into.ensures.still).crash st;
+      read_on g.D.Disk.image g.D.Disk.may_leave c.args.self.now _ first since hard
+      (same_read g.D.Disk.image c.args.self.now _ c.disk.result.now c.disk.ensures.value (λ unclosed. unclosed) refl refl refl refl refl refl refl refl (λ known. known) (length-lent c.args.self.now.buffer c.get_value_into.new.buffer) c.get_value_into.ensures.image)
+      (shelf_same g.D.Disk.image c.args.self.now)
+      (still_at g.D.Disk.image g.D.Disk.may_leave g.D.Disk.moment g.D.Disk.left_since _ _ _ c.disk.ensures.value c.get_value_into.ensures.still).crash st;
   keeps_since = λ t n first since hard st.
-    stood_on g.D.Disk.image g.D.Disk.may_leave g.D.Disk.moment g.D.Disk.left_since c.args.self.now _ t n first since hard
-    (same_read g.D.Disk.image c.args.self.now _ c.disk.result.now c.disk.ensures.value (λ unclosed. unclosed) refl refl refl refl refl refl refl refl (length-lent c.args.self.now.buffer c.get_value_into.new.buffer) c.get_value_into.ensures.image)
-    (shelf_same g.D.Disk.image c.args.self.now)
-    (still_at g.D.Disk.image g.D.Disk.may_leave g.D.Disk.moment g.D.Disk.left_since _ _ _ c.disk.ensures.value c.get_value_into.ensures.still) st;
+      stood_on g.D.Disk.image g.D.Disk.may_leave g.D.Disk.moment g.D.Disk.left_since c.args.self.now _ t n first since hard
+      (same_read g.D.Disk.image c.args.self.now _ c.disk.result.now c.disk.ensures.value (λ unclosed. unclosed) refl refl refl refl refl refl refl refl (λ known. known) (length-lent c.args.self.now.buffer c.get_value_into.new.buffer) c.get_value_into.ensures.image)
+      (shelf_same g.D.Disk.image c.args.self.now)
+      (still_at g.D.Disk.image g.D.Disk.may_leave g.D.Disk.moment g.D.Disk.left_since _ _ _ c.disk.ensures.value c.get_value_into.ensures.still) st;
   writes_nothing = record { same = search rules; still = still_at g.D.Disk.image g.D.Disk.may_leave g.D.Disk.moment g.D.Disk.left_since _ _ _ c.disk.ensures.value c.get_value_into.ensures.still };
   later = search rules;
   more_taken = search rules;

@@ -15,15 +15,15 @@ returns-clause-looks g c = record {
   same_nature = search rules;
   same_shown = search rules;
   keeps = λ first since hard st.
-    read_on g.D.Disk.image g.D.Disk.may_leave c.args.self.now _ first since hard
-    (same_read g.D.Disk.image c.args.self.now _ c.disk.result.now c.disk.ensures.value (λ unclosed. unclosed) refl refl refl refl refl refl refl refl refl c.first_record.ensures.image)
-    (shelf_at g.D.Disk.image g.D.Disk.may_leave c.args.self.now c.first_record.new.shelf c.disk.result.now c.head.result.now c.disk.ensures.value c.head.ensures c.first_record.ensures.shelf)
-    (still_at g.D.Disk.image g.D.Disk.may_leave g.D.Disk.moment g.D.Disk.left_since _ _ _ c.disk.ensures.value c.first_record.ensures.still).crash st;
+      read_on g.D.Disk.image g.D.Disk.may_leave c.args.self.now _ first since hard
+      (same_read g.D.Disk.image c.args.self.now _ c.disk.result.now c.disk.ensures.value (λ unclosed. unclosed) refl refl refl refl refl refl refl refl (λ known. known) refl c.first_record.ensures.image)
+      (shelf_at g.D.Disk.image g.D.Disk.may_leave c.args.self.now c.first_record.new.shelf c.disk.result.now c.head.result.now c.disk.ensures.value c.head.ensures c.first_record.ensures.shelf)
+      (still_at g.D.Disk.image g.D.Disk.may_leave g.D.Disk.moment g.D.Disk.left_since _ _ _ c.disk.ensures.value c.first_record.ensures.still).crash st;
   keeps_since = λ t n first since hard st.
-    stood_on g.D.Disk.image g.D.Disk.may_leave g.D.Disk.moment g.D.Disk.left_since c.args.self.now _ t n first since hard
-    (same_read g.D.Disk.image c.args.self.now _ c.disk.result.now c.disk.ensures.value (λ unclosed. unclosed) refl refl refl refl refl refl refl refl refl c.first_record.ensures.image)
-    (shelf_at g.D.Disk.image g.D.Disk.may_leave c.args.self.now c.first_record.new.shelf c.disk.result.now c.head.result.now c.disk.ensures.value c.head.ensures c.first_record.ensures.shelf)
-    (still_at g.D.Disk.image g.D.Disk.may_leave g.D.Disk.moment g.D.Disk.left_since _ _ _ c.disk.ensures.value c.first_record.ensures.still) st;
+      stood_on g.D.Disk.image g.D.Disk.may_leave g.D.Disk.moment g.D.Disk.left_since c.args.self.now _ t n first since hard
+      (same_read g.D.Disk.image c.args.self.now _ c.disk.result.now c.disk.ensures.value (λ unclosed. unclosed) refl refl refl refl refl refl refl refl (λ known. known) refl c.first_record.ensures.image)
+      (shelf_at g.D.Disk.image g.D.Disk.may_leave c.args.self.now c.first_record.new.shelf c.disk.result.now c.head.result.now c.disk.ensures.value c.head.ensures c.first_record.ensures.shelf)
+      (still_at g.D.Disk.image g.D.Disk.may_leave g.D.Disk.moment g.D.Disk.left_since _ _ _ c.disk.ensures.value c.first_record.ensures.still) st;
   writes_nothing = record { same = search rules; still = still_at g.D.Disk.image g.D.Disk.may_leave g.D.Disk.moment g.D.Disk.left_since _ _ _ c.disk.ensures.value c.first_record.ensures.still };
   later = search rules;
   more_taken = search rules;

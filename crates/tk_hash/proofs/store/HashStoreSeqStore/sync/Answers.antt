@@ -18,6 +18,7 @@ returns-in_ok-told-clause-stands g c first since hard st =
       writable = refl;
       closed = λ unclosed. unclosed;
       heads = refl;
+      found = λ known. known;
       buffer = refl;
       bytes = done c.sync_log.result c.told.result c.in_ok-told.field-0 answer (search rules) c.sync_log.ensures.image;
     })
