@@ -52,7 +52,7 @@ fn write_empty<D: Disk>(alloc: Global, disk: &mut D, head: &StaticHead) -> Resul
     ensures fault { IfErr result (λ e. e ≡ OpenError.Fault → Rose (D.fault_count disk.old) (D.fault_count disk.new)) }
     ensures later { D.fault_count disk.old ≤ D.fault_count disk.new }
 {
-    match write_fresh(alloc, disk, head, &PairList::new(alloc)) {
+    match write_fresh(alloc, disk, head, 0, &PairList::new(alloc)) {
         Ok(()) => Ok(()),
         Err(DiskError::Fault) => Err(OpenError::Fault),
         Err(DiskError::NoMemory) => match disk.cut(0) {

@@ -675,7 +675,7 @@ fn files_that_are_refused(rt: HostRuntime) -> Result<(), Fail> {
         generation: 0,
     };
     let mut other = disk_of(alloc, b"", &[])?;
-    write_fresh(alloc, &mut other, &head, &PairList::new(alloc))?;
+    write_fresh(alloc, &mut other, &head, 0, &PairList::new(alloc))?;
     assert_eq!(rt;
         refusal(alloc, other.bytes(), &[])?,
         Some(OpenError::BrokenAt(8))
