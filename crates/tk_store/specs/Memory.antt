@@ -15,17 +15,17 @@ mem_nature s = record { order = s.order; limit = min s.room (2 ^ 40); next = 0; 
 
 -- the store counts records
 abbrev pub mem_shown : MemStore → Shown
-mem_shown s = record { map = Some s.pairs.items; size = length s.pairs.items; floor = floor_of s.last; held_back = false; closed = s.closed; ended = if s.closed && s.writable then Some s.end else None; cost = λ k. None; needs = λ cs. Some (length (after s.order cs s.pairs.items) - length s.pairs.items); log_size = 0 }
+mem_shown s = record { map = Some s.pairs; size = length s.pairs; floor = floor_of s.last; held_back = false; closed = s.closed; ended = if s.closed && s.writable then Some s.end else None; cost = λ k. None; needs = λ cs. Some (length (after s.order cs s.pairs) - length s.pairs); log_size = 0 }
 
 -- the records that the list leads to are staged
 pub record MemPrepared (s : MemStore) (cs : List Change) : Type 0 where
-  pub staged : s.staged.items ≡ after s.order cs s.pairs.items
+  pub staged : s.staged ≡ after s.order cs s.pairs
   pub fit : AllFit cs
   pub grows : s.grows ≡ not (is_empty cs)
 
 pub record MemStands (s : MemStore) (first : First) (since : List Group) (hard : ℕ) : Type 0 where
-  pub map : s.pairs.items ≡ replay s.order since first.records
-  pub fit : AllHeld s.pairs.items
+  pub map : s.pairs ≡ replay s.order since first.records
+  pub fit : AllHeld s.pairs
   pub rising : Rising s.order first.records
   pub floor : floor_of s.last ≡ floor_after 0 since
   pub synced : hard ≤ length since

@@ -3,6 +3,7 @@ use Rattle.std.specs.Prelude.{◌≡◌, ℕ, ◌+◌, ◌-◌, ◌*◌, ◌/◌
 use Rattle.std.specs.Option.{is_some}
 use Rattle.tk_store.specs.declared.error.StoreError.{StoreError}
 use Rattle.tk_store.specs.declared.error.StoreError.TheVariants as errors
+use Rattle.tk_model.specs.Counts.{HasCause as FaultHasCause}
 use Rattle.tk_model.specs.declared.record.Order.{Order}
 use Rattle.tk_model.specs.declared.record.Pair.{Pair}
 use Rattle.tk_model.specs.declared.record.Group.{Group}
@@ -127,15 +128,9 @@ is_empty (c ∷ cs) = false
 abbrev pub is_over : (size need limit : ℕ) → List Change → Bool
 is_over size need limit cs = nat_lt limit (size + need) && not (is_empty cs && (need == 0))
 
--- a count that never falls and stands at its greatest number
-abbrev pub Rose : ℕ → ℕ → Type 0
-Rose before now = min (before + 1) (2 ^ 64 - 1) ≤ now
-
 -- a fault comes only where the count rose
-pub record HasCause {T : Type 0} (before now : ℕ) (result : Result T StoreError) : Type 0 where
-  pub later : before ≤ now
-  pub fault : IsErrOf result errors.Fault → Rose before now
-  pub kept : OnOk result (now ≡ before)
+abbrev pub HasCause : {T : Type 0} → (before now : ℕ) → Result T StoreError → Type 0
+HasCause before now result = FaultHasCause errors.Fault before now result
 
 abbrev pub NeverFull : {T : Type 0} → Result T StoreError → Type 0
 NeverFull (Ok v) = Unit {0}

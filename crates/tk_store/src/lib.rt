@@ -3,8 +3,10 @@
 
 mod error;
 mod hashed;
+mod hashed_pair;
 mod limit;
 mod memory;
+mod parting;
 mod records;
 mod run;
 mod store;

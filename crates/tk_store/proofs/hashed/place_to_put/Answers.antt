@@ -8,4 +8,4 @@ use Rattle.tk_store.proofs.hashed.place_to_put.Goals as goal
 pub returns-in-Equal : goal.returns-in-Equal
 returns-in-Equal c =
     goes_at Hash c.args.key.now c.args.pairs.now c.loop-i.i c.index-pairs-i.result c.loop-i-test.true c.index-pairs-i.is
-    (ap (λ (p : Pair). key_cmp Hash c.args.key.now p.key) c.index-pairs-i.is ∙ ap (key_cmp Hash c.args.key.now) (sym c.as_slice.ensures) ∙ sym c.compare_keys.ensures ∙ c.in-Equal.is) c.loop-i.invariant
+    (sym c.compare.ensures ∙ c.in-Equal.is) c.loop-i.invariant
