@@ -1,5 +1,5 @@
 ghost use Rattle.std.specs.Prelude.{◌≡◌, ◌≤◌, true, false};
-ghost use Rattle.tk_disk.specs.MemDisk.{mem_image, MemMayLeave};
+ghost use Rattle.tk_disk.specs.MemDisk.{mem_image, mem_past, MemMayLeave};
 ghost use Rattle.tk_store.specs.Store.{IsWhole};
 ghost use Rattle.tk_hash.specs.Hash.{hash_nature, hash_shown, HashStands};
 
@@ -14,7 +14,7 @@ use tk_store::StoreError;
 
 /// Sets three records, each in a group of its own. The first is hard-synced.
 fn three_groups(alloc: Global, store: &mut HashStore<MemDisk>) -> Result<(), StoreError>
-    requires whole { IsWhole (HashStands mem_image MemMayLeave) store.old }
+    requires whole { IsWhole (HashStands mem_image MemMayLeave mem_past) store.old }
     requires open { (hash_shown mem_image store.old).closed ≡ false }
     requires writable { (hash_nature store.old).writable ≡ true }
     requires number { (hash_shown mem_image store.old).floor ≤ 0 }
