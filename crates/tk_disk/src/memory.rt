@@ -99,9 +99,9 @@ impl MemDisk {
 
 #[tactic(auto, using(crate::proofs::Still::same_time, crate::proofs::Still::later_time, crate::proofs::Still::later_write, crate::proofs::Still::later_cut, crate::proofs::Still::later_sync, crate::proofs::Still::later_rest, crate::proofs::Still::may_tear, crate::proofs::Still::may_shorten))]
 impl Disk for MemDisk {
-    ghost use Rattle.std.specs.Prelude.{◌≡◌, ◌+◌, ◌≤◌, ◌^◌, [], true, false, length, take, IfOk, OnOk, OnErr};
+    ghost use Rattle.std.specs.Prelude.{◌≡◌, ◌+◌, ◌≤◌, ◌^◌, true, false, length, IfOk, OnOk};
     ghost use Rattle.std.specs.Option.{option_map};
-    ghost use Rattle.tk_disk.specs.Crash.{Torn, Shortened, Follows, Within, Only};
+    ghost use Rattle.tk_disk.specs.Crash.{Torn, Shortened, Follows};
     ghost use Rattle.tk_disk.specs.Disk.{put_at, ReadsFrom, Takes};
     ghost use Rattle.tk_disk.specs.MemDisk.{mem_bytes, mem_image, mem_moment, mem_tape, mem_past, mem_faults, mem_taken, MemMayLeave, MemLeftSince, MemLeftWith, RunsByList};
     ghost use Rattle.tk_disk.specs.Past.{with_write, Writes};
