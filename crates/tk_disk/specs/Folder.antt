@@ -25,3 +25,8 @@ pub record SameHistory (before now : ℕ) (left leaves : List ℕ → Type 0) (w
   pub past : past_is ≡ past_was
   pub pasts : (t : ℕ) (x : Past × List ℕ) → since_with t x → was_with t x
   pub keeps_pasts : (t : ℕ) (x : Past × List ℕ) → was_with t x → since_with t x
+
+-- of the file at a name both folders tell the same history
+abbrev pub KeepsHistory : {F : Type 0} → (F → List ℕ → ℕ) → (F → List ℕ → List ℕ → Type 0) → (F → List ℕ → ℕ → List ℕ → Type 0) → (F → List ℕ → Past) → (F → List ℕ → ℕ → Past × List ℕ → Type 0) → (old new : F) → List ℕ → Type 0
+KeepsHistory moment_of leaves left_since past_of left_with old new name =
+    SameHistory (moment_of old name) (moment_of new name) (leaves old name) (leaves new name) (left_since old name) (left_since new name) (past_of old name) (past_of new name) (left_with old name) (left_with new name)

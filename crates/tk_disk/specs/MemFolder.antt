@@ -11,6 +11,7 @@ use Rattle.tk_disk.specs.Crash.{Only}
 use Rattle.tk_disk.specs.Disk.{capped}
 use Rattle.tk_disk.specs.MemDisk.{mem_bytes, mem_room, mem_list, mem_calls, mem_faults, mem_taken, mem_moment, mem_past, is_listed, MemMayLeave, MemLeftSince, MemLeftWith}
 use Rattle.tk_disk.specs.Past.{Past, settled_on}
+use Rattle.tk_disk.specs.Folder.{KeepsHistory}
 use Rattle.tk_disk.specs.Places.{held_at}
 
 -- what a name's slot, or its absence, says: its disk, what its file holds, whether the disk is out, and its count of faults
@@ -93,6 +94,10 @@ folder_past_of f name = slot_past (held_at f.places.items name)
 -- at some moment from one on this was the past at a name, and a crash might have left that
 abbrev pub FolderLeftWith : MemFolder → List ℕ → ℕ → Past × List ℕ → Type 0
 FolderLeftWith f name = SlotLeftWith (held_at f.places.items name)
+
+-- both folders tell the same history of the file at a name
+abbrev pub FolderKeeps : (old new : MemFolder) → List ℕ → Type 0
+FolderKeeps = KeepsHistory folder_moment_of FolderLeaves FolderLeftSince folder_past_of FolderLeftWith
 
 abbrev pub folder_tells : MemFolder → Bool
 folder_tells f = true

@@ -83,7 +83,7 @@ impl MemFolder {
     ghost use Rattle.tk_disk.specs.Folder.{NoneOut, SameHistory};
     ghost use Rattle.tk_disk.specs.Past.{settled_on};
     ghost use Rattle.tk_disk.specs.MemDisk.{mem_faults, mem_moment, mem_past, MemMayLeave, MemLeftSince, MemLeftWith};
-    ghost use Rattle.tk_disk.specs.MemFolder.{folder_disk, folder_file, folder_is_out, folder_disk_faults, folder_faults, folder_room, folder_list, folder_calls, folder_fails, folder_moment_of, folder_past_of, FolderLeaves, FolderLeftSince, FolderLeftWith, IsNewDisk};
+    ghost use Rattle.tk_disk.specs.MemFolder.{folder_disk, folder_file, folder_is_out, folder_disk_faults, folder_faults, folder_room, folder_list, folder_calls, folder_fails, folder_moment_of, folder_past_of, FolderLeaves, FolderLeftSince, FolderLeftWith, FolderKeeps, IsNewDisk};
 
     /// A folder of no files. Each disk that it creates has the room, and fails by it alone.
     pub fn new(alloc: Global, room: u64, faults: FaultList) -> MemFolder
@@ -112,9 +112,13 @@ impl MemFolder {
     pub fn add(&mut self, name: &str, disk: MemDisk) -> Result<(), NoMemory>
         requires home { folder_is_out self.old name.now ≡ false }
         ensures here { OnOk result (folder_disk self.new name.now ≡ Some disk) }
-        ensures crash { OnOk result (SameHistory (mem_moment disk) (folder_moment_of self.new name.now) (MemMayLeave disk) (FolderLeaves self.new name.now) (MemLeftSince disk) (FolderLeftSince self.new name.now) (mem_past disk) (folder_past_of self.new name.now) (MemLeftWith disk) (FolderLeftWith self.new name.now)) }
-        ensures err_crash { OnErr result (SameHistory (folder_moment_of self.old name.now) (folder_moment_of self.new name.now) (FolderLeaves self.old name.now) (FolderLeaves self.new name.now) (FolderLeftSince self.old name.now) (FolderLeftSince self.new name.now) (folder_past_of self.old name.now) (folder_past_of self.new name.now) (FolderLeftWith self.old name.now) (FolderLeftWith self.new name.now)) }
-        ensures others_crash { (m : List ℕ) → m ≢ name.now → SameHistory (folder_moment_of self.old m) (folder_moment_of self.new m) (FolderLeaves self.old m) (FolderLeaves self.new m) (FolderLeftSince self.old m) (FolderLeftSince self.new m) (folder_past_of self.old m) (folder_past_of self.new m) (FolderLeftWith self.old m) (FolderLeftWith self.new m) }
+        ensures crash { OnOk result (SameHistory (mem_moment disk) (folder_moment_of self.new name.now)
+            (MemMayLeave disk) (FolderLeaves self.new name.now)
+            (MemLeftSince disk) (FolderLeftSince self.new name.now)
+            (mem_past disk) (folder_past_of self.new name.now)
+            (MemLeftWith disk) (FolderLeftWith self.new name.now)) }
+        ensures err_crash { OnErr result (FolderKeeps self.old self.new name.now) }
+        ensures others_crash { (m : List ℕ) → m ≢ name.now → FolderKeeps self.old self.new m }
         ensures out { folder_is_out self.new name.now ≡ false }
         ensures count { OnOk result (folder_disk_faults self.new name.now ≡ mem_faults disk) }
         ensures others { SameBut name.now (folder_disk self.old) (folder_disk self.new) }
@@ -187,7 +191,7 @@ impl Folder for MemFolder {
     ghost use Rattle.tk_disk.specs.FolderLaws.{slot_reads, slot_counts_now, slot_only_now, slot_counts_with, slot_only_with, slot_since_with};
     ghost use Rattle.tk_disk.specs.MemDisk.{mem_image, mem_faults, mem_moment, mem_past, MemMayLeave, MemLeftSince, MemLeftWith};
     ghost use Rattle.tk_disk.specs.Places.{held_at};
-    ghost use Rattle.tk_disk.specs.MemFolder.{folder_tells, folder_disk, folder_file, folder_is_out, folder_disk_faults, folder_faults, folder_room, folder_moment_of, folder_past_of, FolderLeaves, FolderLeftSince, FolderLeftWith, FailsByList, IsTakenFrom};
+    ghost use Rattle.tk_disk.specs.MemFolder.{folder_tells, folder_disk, folder_file, folder_is_out, folder_disk_faults, folder_faults, folder_room, folder_moment_of, folder_past_of, FolderLeaves, FolderLeftSince, FolderLeftWith, FolderKeeps, FailsByList, IsTakenFrom};
 
     type D = MemDisk;
 
@@ -244,10 +248,15 @@ impl Folder for MemFolder {
         ensures tells { folder_tells self.new ≡ folder_tells self.old }
         ensures cause { HasFaultCause (folder_faults self.old) (folder_faults self.new) result }
         ensures unmet { IsErrOf result DiskError.NoMemory → folder_faults self.new ≡ folder_faults self.old }
-        ensures crash { IfOk result (λ o. IfSome o (λ d. SameHistory (folder_moment_of self.old name.now) (mem_moment d) (FolderLeaves self.old name.now) (MemMayLeave d) (FolderLeftSince self.old name.now) (MemLeftSince d) (folder_past_of self.old name.now) (mem_past d) (FolderLeftWith self.old name.now) (MemLeftWith d))) }
-        ensures none_crash { IfOk result (λ o. IfNone o (SameHistory (folder_moment_of self.old name.now) (folder_moment_of self.new name.now) (FolderLeaves self.old name.now) (FolderLeaves self.new name.now) (FolderLeftSince self.old name.now) (FolderLeftSince self.new name.now) (folder_past_of self.old name.now) (folder_past_of self.new name.now) (FolderLeftWith self.old name.now) (FolderLeftWith self.new name.now))) }
-        ensures err_crash { OnErr result (SameHistory (folder_moment_of self.old name.now) (folder_moment_of self.new name.now) (FolderLeaves self.old name.now) (FolderLeaves self.new name.now) (FolderLeftSince self.old name.now) (FolderLeftSince self.new name.now) (folder_past_of self.old name.now) (folder_past_of self.new name.now) (FolderLeftWith self.old name.now) (FolderLeftWith self.new name.now)) }
-        ensures others_crash { (m : List ℕ) → m ≢ name.now → SameHistory (folder_moment_of self.old m) (folder_moment_of self.new m) (FolderLeaves self.old m) (FolderLeaves self.new m) (FolderLeftSince self.old m) (FolderLeftSince self.new m) (folder_past_of self.old m) (folder_past_of self.new m) (FolderLeftWith self.old m) (FolderLeftWith self.new m) }
+        ensures crash { IfOk result (λ o. IfSome o (λ d.
+            SameHistory (folder_moment_of self.old name.now) (mem_moment d)
+            (FolderLeaves self.old name.now) (MemMayLeave d)
+            (FolderLeftSince self.old name.now) (MemLeftSince d)
+            (folder_past_of self.old name.now) (mem_past d)
+            (FolderLeftWith self.old name.now) (MemLeftWith d))) }
+        ensures none_crash { IfOk result (λ o. IfNone o (FolderKeeps self.old self.new name.now)) }
+        ensures err_crash { OnErr result (FolderKeeps self.old self.new name.now) }
+        ensures others_crash { (m : List ℕ) → m ≢ name.now → FolderKeeps self.old self.new m }
         ensures exact { FailsByList self.old self.new result }
         ensures disk { IfOk result (λ o. IfSome o (IsTakenFrom (folder_disk self.old name.now) (folder_room self.old))) }
         ensures others_disk { SameBut name.now (folder_disk self.old) (folder_disk self.new) }
@@ -271,8 +280,12 @@ impl Folder for MemFolder {
         ensures others_count { SameBut name.now (folder_disk_faults self.old) (folder_disk_faults self.new) }
         ensures tells { folder_tells self.new ≡ folder_tells self.old }
         ensures cause { HasCause (folder_faults self.old) (folder_faults self.new) result }
-        ensures crash { SameHistory (mem_moment disk) (folder_moment_of self.new name.now) (MemMayLeave disk) (FolderLeaves self.new name.now) (MemLeftSince disk) (FolderLeftSince self.new name.now) (mem_past disk) (folder_past_of self.new name.now) (MemLeftWith disk) (FolderLeftWith self.new name.now) }
-        ensures others_crash { (m : List ℕ) → m ≢ name.now → SameHistory (folder_moment_of self.old m) (folder_moment_of self.new m) (FolderLeaves self.old m) (FolderLeaves self.new m) (FolderLeftSince self.old m) (FolderLeftSince self.new m) (folder_past_of self.old m) (folder_past_of self.new m) (FolderLeftWith self.old m) (FolderLeftWith self.new m) }
+        ensures crash { SameHistory (mem_moment disk) (folder_moment_of self.new name.now)
+            (MemMayLeave disk) (FolderLeaves self.new name.now)
+            (MemLeftSince disk) (FolderLeftSince self.new name.now)
+            (mem_past disk) (folder_past_of self.new name.now)
+            (MemLeftWith disk) (FolderLeftWith self.new name.now) }
+        ensures others_crash { (m : List ℕ) → m ≢ name.now → FolderKeeps self.old self.new m }
         ensures exact { FailsByList self.old self.new result }
         ensures disk { folder_disk self.new name.now ≡ Some disk }
         ensures others_disk { SameBut name.now (folder_disk self.old) (folder_disk self.new) }

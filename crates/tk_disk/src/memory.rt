@@ -97,16 +97,15 @@ impl MemDisk {
     }
 }
 
-#[tactic(auto, using(crate::proofs::Still::same_time, crate::proofs::Still::later_time, crate::proofs::Still::later_torn, crate::proofs::Still::not_torn, crate::proofs::Still::not_cut, crate::proofs::Still::within_itself))]
+#[tactic(auto, using(crate::proofs::Still::same_time, crate::proofs::Still::later_time, crate::proofs::Still::later_write, crate::proofs::Still::later_cut, crate::proofs::Still::later_sync, crate::proofs::Still::later_rest, crate::proofs::Still::may_tear, crate::proofs::Still::may_shorten))]
 impl Disk for MemDisk {
-    ghost use Rattle.std.specs.Prelude.{◌≡◌, ◌+◌, ◌≤◌, ◌^◌, [], true, false, length, take, IfOk, OnOk, OnErr};
+    ghost use Rattle.std.specs.Prelude.{◌≡◌, ◌+◌, ◌≤◌, ◌^◌, true, false, length, IfOk, OnOk};
     ghost use Rattle.std.specs.Option.{option_map};
-    ghost use Rattle.tk_disk.specs.Crash.{Torn, Shortened, Follows, Within, Only};
+    ghost use Rattle.tk_disk.specs.Crash.{Torn, Shortened, Follows};
     ghost use Rattle.tk_disk.specs.Disk.{put_at, ReadsFrom, Takes};
     ghost use Rattle.tk_disk.specs.MemDisk.{mem_bytes, mem_image, mem_moment, mem_tape, mem_past, mem_faults, mem_taken, MemMayLeave, MemLeftSince, MemLeftWith, RunsByList};
-    ghost use Rattle.tk_disk.specs.Past.{with_write, with_cut, settled_on, Writes, Cuts};
-    ghost use Rattle.tk_disk.specs.Memory.{Grows, Stays};
-    ghost use Rattle.tk_disk.specs.declared.tape.Step.TheVariants.{Write, Cut, Sync};
+    ghost use Rattle.tk_disk.specs.Past.{with_write, Writes};
+    ghost use Rattle.tk_disk.specs.Memory.{TapeWrites, TapeCuts, TapeSyncs, TapeRests};
     ghost use Rattle.tk_disk.specs.MemoryLaws.{mem_reads, mem_counts_now, mem_only_now, mem_counts_with, mem_only_with, mem_since_with};
 
     ghost image = { mem_image };
@@ -173,11 +172,11 @@ impl Disk for MemDisk {
         requires end { at + length bytes.now ≤ 2 ^ 40 }
         ensures written { OnOk result (mem_image self.new ≡ option_map (put_at at bytes.now) (mem_image self.old)) }
         ensures taken { mem_taken self.new ≡ mem_taken self.old }
+        ensures exact { RunsByList (64 + length bytes.now) self.old self.new result }
         ensures crash { Follows (Torn at (length bytes.now)) (MemMayLeave self.old) (MemMayLeave self.new) }
         ensures past { Writes at bytes.now (mem_past self.old) (mem_past self.new) }
         ensures told_past { OnOk result (mem_past self.new ≡ with_write at bytes.now (mem_past self.old)) }
-        ensures exact { RunsByList (64 + length bytes.now) self.old self.new result }
-        ensures record { OnOk result (Grows (mem_tape self.old) (mem_tape self.new) (Write at (length bytes.now)) bytes.now) }
+        ensures done { OnOk result (TapeWrites at bytes.now (mem_tape self.old) (mem_tape self.new)) }
     {
         self.begin(64 + bytes.len() as u64)?;
         self.tape.write(at, bytes);
@@ -186,13 +185,10 @@ impl Disk for MemDisk {
 
     fn cut(&mut self, len: u64) -> Result<(), DiskError>
         requires { len ≤ length (mem_bytes self.old) }
-        ensures cut { OnOk result (mem_image self.new ≡ option_map (take len) (mem_image self.old)) }
         ensures taken { mem_taken self.new ≡ mem_taken self.old }
-        ensures crash { Follows (Shortened len) (MemMayLeave self.old) (MemMayLeave self.new) }
-        ensures past { Cuts len (mem_past self.old) (mem_past self.new) }
-        ensures told_past { OnOk result (mem_past self.new ≡ with_cut len (mem_past self.old)) }
         ensures exact { RunsByList 64 self.old self.new result }
-        ensures record { OnOk result (Grows (mem_tape self.old) (mem_tape self.new) (Cut len) []) }
+        ensures crash { Follows (Shortened len) (MemMayLeave self.old) (MemMayLeave self.new) }
+        ensures done { OnOk result (TapeCuts len (mem_tape self.old) (mem_tape self.new)) }
     {
         self.begin(64)?;
         self.tape.cut(len);
@@ -200,16 +196,10 @@ impl Disk for MemDisk {
     }
 
     fn sync(&mut self, hard: bool) -> Result<(), DiskError>
-        ensures image { mem_bytes self.new ≡ mem_bytes self.old }
-        ensures durable { hard ≡ true → OnOk result (Only (mem_bytes self.old) (MemMayLeave self.new)) }
         ensures taken { mem_taken self.new ≡ mem_taken self.old }
-        ensures crash { Within (MemMayLeave self.old) (MemMayLeave self.new) }
-        ensures settled { hard ≡ true → OnOk result (mem_past self.new ≡ settled_on (mem_bytes self.old)) }
-        ensures unsettled { OnErr result (mem_past self.new ≡ mem_past self.old) }
-        ensures soft { hard ≡ false → mem_past self.new ≡ mem_past self.old }
         ensures exact { RunsByList 64 self.old self.new result }
-        ensures hard_record { hard ≡ true → OnOk result (Grows (mem_tape self.old) (mem_tape self.new) Sync []) }
-        ensures soft_record { hard ≡ false → OnOk result (Stays (mem_tape self.old) (mem_tape self.new)) }
+        ensures hard { hard ≡ true → OnOk result (TapeSyncs (mem_tape self.old) (mem_tape self.new)) }
+        ensures soft { hard ≡ false → OnOk result (TapeRests (mem_tape self.old) (mem_tape self.new)) }
     {
         self.begin(64)?;
         if hard {
