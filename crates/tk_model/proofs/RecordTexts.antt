@@ -127,6 +127,19 @@ record_again p rest fits =
     ∙ ap (λ (x : List ℕ). Some (record { key = x; value = (fields_in (record_text p ++ rest)).value })) key
     ∙ ap (λ (x : List ℕ). Some (record { key = p.key; value = x })) value
 
+some_same : (p q : Pair) → Some p ≡ Some q → p ≡ q
+some_same p q e = cc
+
+-- a record at the front is the only one there
+pub record_same : (p q : Pair) (x y : List ℕ) → FitsRecord p → FitsRecord q → record_text p ++ x ≡ record_text q ++ y → (p ≡ q) × (x ≡ y)
+record_same p q x y fp fq same =
+    let one : p ≡ q = some_same p q (sym (record_again p x fp) ∙ ap record_at same ∙ record_again q y fq) in (
+      one,
+      sym (drop_at (record_text p) x (length (record_text p)) refl)
+          ∙ ap (λ l. drop (length (record_text p)) l) same
+          ∙ drop_at (record_text q) y (length (record_text p)) (ap (λ (r : Pair). length (record_text r)) (sym one)),
+    )
+
 -- ---- the reader
 
 pub front_found : (text : List ℕ) (o : Option RecordHere) → AreBytes text → option_map pair_here o ≡ record_at text → IfSome o (λ r. r.rest.now ≡ drop (record_size (pair_here r)) text)
