@@ -1,8 +1,7 @@
 -- What the hashes of keys tell of the keys.
 use Rattle.std.proofs.Common.{◌≡◌, ℕ, Bool, true, false, List, refl, sym, ap, ◌∙◌}
 use Rattle.std.specs.Ordering.{nat_cmp}
-use Rattle.std.specs.declared.cmp.Ordering.{Ordering}
-use Rattle.std.specs.declared.cmp.Ordering.TheVariants.{Less, Equal, Greater}
+use Rattle.std.specs.declared.cmp.Ordering.TheVariants.{Less, Greater}
 use Rattle.tk_model.specs.Hashes.{mix_of}
 use Rattle.tk_model.specs.Orders.{same_bytes, key_cmp}
 use Rattle.tk_model.specs.declared.record.Order.TheVariants.{Hash}

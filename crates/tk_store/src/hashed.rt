@@ -12,9 +12,7 @@ use crate::parting::Parting;
 use std::alloc::{AllocError, Global};
 use std::cmp::Ordering;
 use std::marker::Model;
-use tk_model::{
-    Bound, Bytes, Change, ListOf, NoMemory, Order, Pair, Way, bucket, is_within, mix,
-};
+use tk_model::{Bound, Bytes, Change, ListOf, NoMemory, Order, Pair, Way, bucket, is_within, mix};
 
 /// The records of a bucket.
 type Bucket = ListOf<HashedPair>;
@@ -285,7 +283,11 @@ impl HashedRecords {
         ensures { option_copied result ≡ find key.now self.now }
     {
         let hash = mix(key);
-        value_in(self.buckets[self.parting.bucket_at(hash)].as_slice(), hash, key)
+        value_in(
+            self.buckets[self.parting.bucket_at(hash)].as_slice(),
+            hash,
+            key,
+        )
     }
 
     /// Looks at the bucket of the key alone.
@@ -354,6 +356,7 @@ impl HashedRecords {
 #[cfg(test)]
 mod tests {
     use super::*;
+    use tk_model::is_same;
 
     fn bytes(alloc: Global, text: &[u8]) -> Result<Bytes, NoMemory>
         ensures { IfOk result (λ b. b ≡ text.now) }
@@ -390,15 +393,19 @@ mod tests {
     #[test]
     fn keys_stand_by_their_hash(rt: HostRuntime) {
         // The mixed hash of b is 0x6e67.., that of a 0x82a2..
-        let mut records = HashedRecords::new(rt.alloc(), 4).expect(&rt, "memory");
-        for text in [b"a", b"b"] {
-            let new = pair(rt.alloc(), text, b"1").expect(&rt, "memory");
-            records.apply(Change::Put(new)).expect(&rt, "memory");
+        for (shared, number) in [(0, 0), (1, 0), (1, 1)] {
+            let mut records = HashedRecords::under(rt.alloc(), shared, number, 4).expect(
+                &rt, "memory",
+            );
+            for text in [b"a", b"b"] {
+                let new = pair(rt.alloc(), text, b"1").expect(&rt, "memory");
+                records.apply(Change::Put(new)).expect(&rt, "memory");
+            }
+            let first = records.first_within(&Bound::Edge).expect(&rt, "a record");
+            let last = records.last_within(&Bound::Edge).expect(&rt, "a record");
+            assert!(rt; is_same(first.key.as_slice(), b"b"));
+            assert!(rt; is_same(last.key.as_slice(), b"a"));
         }
-        let first = records.first_within(&Bound::Edge).expect(&rt, "a record");
-        let last = records.last_within(&Bound::Edge).expect(&rt, "a record");
-        assert!(rt; is_same(first.key.as_slice(), b"b"));
-        assert!(rt; is_same(last.key.as_slice(), b"a"));
     }
 
     #[test]

@@ -24,7 +24,9 @@ impl Parting {
         ensures below { result < 2 ^ self.p }
     {
         let last = (1 << self.p) - 1;
-        bucket(hash, self.depth).saturating_sub(self.start).min(last) as usize
+        bucket(hash, self.depth)
+            .saturating_sub(self.start)
+            .min(last) as usize
     }
 
     /// The first bucket that can have a record within a bound, on the way up.

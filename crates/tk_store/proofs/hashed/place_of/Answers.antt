@@ -1,6 +1,4 @@
-use Rattle.std.proofs.Common.{sym, ◌∙◌, ap}
-use Rattle.tk_model.specs.Orders.{same_bytes}
-use Rattle.tk_model.specs.declared.record.Pair.{Pair}
+use Rattle.std.proofs.Common.{sym, ◌∙◌}
 use Rattle.tk_model.proofs.PlaceSteps.{found_here}
 use Rattle.tk_store.proofs.hashed.place_of.Goals as goal
 

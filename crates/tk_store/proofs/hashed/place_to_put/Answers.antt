@@ -1,6 +1,4 @@
-use Rattle.std.proofs.Common.{sym, ◌∙◌, ap}
-use Rattle.tk_model.specs.Orders.{key_cmp}
-use Rattle.tk_model.specs.declared.record.Pair.{Pair}
+use Rattle.std.proofs.Common.{sym, ◌∙◌}
 use Rattle.tk_model.proofs.PlaceSteps.{goes_at}
 use Rattle.tk_model.specs.declared.record.Order.TheVariants.{Hash}
 use Rattle.tk_store.proofs.hashed.place_to_put.Goals as goal
