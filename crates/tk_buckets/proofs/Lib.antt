@@ -1,4 +1,5 @@
 pub mod Cuts
+pub mod Filled
 pub mod Follows
 pub mod Frames
 pub mod Links

@@ -15,7 +15,7 @@ use Rattle.tk_block.specs.declared.block.Body.{Body}
 use Rattle.tk_block.specs.declared.head.StaticHead.{StaticHead}
 use Rattle.tk_block.specs.Number.{u16_in, u32_in, u64_in}
 use Rattle.tk_block.specs.Text.{checked, check_number}
-use Rattle.tk_block.specs.Blocks.{numbers_text, body_front, body_text, room_of}
+use Rattle.tk_block.specs.Blocks.{numbers_text, body_front, body_text, body_at, room_of}
 use Rattle.tk_block.proofs.BodyGrammar.{bodies, length-body_text}
 use Rattle.tk_block.proofs.Cells.{within}
 use Rattle.tk_buckets.specs.Chain.{IsWhole, extent_in, link_in}
@@ -46,7 +46,7 @@ module _ (b : Body) (place : ℕ) (rest : List ℕ) where
   unfolding numbers_text checked
   value_text = refl
 
-  abbrev tail : List ℕ
+  abbrev pub tail : List ℕ
   tail = to_be_bytes w32 (check_number (body_front b) place) ++ rest
 
   behind_numbers_as_is : drop 16 text ≡ ((b.key ++ b.value) ++ to_be_bytes w32 (check_number (body_front b) place)) ++ rest
@@ -56,8 +56,14 @@ module _ (b : Body) (place : ℕ) (rest : List ℕ) where
   behind_numbers : drop 16 text ≡ b.key ++ (b.value ++ tail)
   behind_numbers = behind_numbers_as_is ∙ append_assoc (b.key ++ b.value) (to_be_bytes w32 (check_number (body_front b) place)) rest ∙ append_assoc b.key b.value tail
 
-  behind_key : drop (16 + length b.key) text ≡ b.value ++ tail
+  pub behind_key : drop (16 + length b.key) text ≡ b.value ++ tail
   behind_key = sym (drop-drop (length b.key) 16 text) ∙ ap (λ (l : List ℕ). drop (length b.key) l) behind_numbers ∙ drop_at b.key (b.value ++ tail) (length b.key) refl
+
+-- a body and what is behind it
+pub body_told : (f : List ℕ) (place : ℕ) (b : Body) → body_at (drop (place + 24) f) place ≡ Some b → drop (place + 24) f ≡ body_text b place ++ drop (length (body_text b place)) (drop (place + 24) f)
+body_told f place b says =
+    let n = length (body_text b place) in
+    sym (take-append-drop n (drop (place + 24) f)) ∙ ap (λ (l : List ℕ). l ++ drop n (drop (place + 24) f)) ((bodies place).found (drop (place + 24) f) b says).1
 
 -- what stands at the front of a block
 pub record Front (f : List ℕ) (place : ℕ) (b : Body) (bytes : List ℕ) : Type 0 where
@@ -78,13 +84,11 @@ module _ (h : StaticHead) (f : List ℕ) (place : ℕ) (whole : IsWhole h f plac
   abbrev rest : List ℕ
   rest = drop (length (body_text b place)) (drop (place + 24) f)
 
-  body_told : drop 24 (drop place f) ≡ body_text b place ++ rest
-  body_told =
-      drop-drop 24 place f ∙ sym (take-append-drop (length (body_text b place)) (drop (place + 24) f))
-      ∙ ap (λ (l : List ℕ). l ++ rest) ((bodies place).found (drop (place + 24) f) b whole.says).1
+  text_told : drop 24 (drop place f) ≡ body_text b place ++ rest
+  text_told = drop-drop 24 place f ∙ body_told f place b whole.says
 
   part_told : (i n : ℕ) → 24 + i + n ≤ m → take n (drop (24 + i) bytes) ≡ take n (drop i (body_text b place ++ rest))
-  part_told i n le = front_same m (24 + i) n bytes (drop place f) le is ∙ ap (λ (l : List ℕ). take n l) (sym (drop-drop i 24 (drop place f)) ∙ ap (λ (l : List ℕ). drop i l) body_told)
+  part_told i n le = front_same m (24 + i) n bytes (drop place f) le is ∙ ap (λ (l : List ℕ). take n l) (sym (drop-drop i 24 (drop place f)) ∙ ap (λ (l : List ℕ). drop i l) text_told)
 
   fits : length b.key < 2 ^ 16
   fits = ((bodies place).found (drop (place + 24) f) b whole.says).0.1
@@ -99,7 +103,7 @@ module _ (h : StaticHead) (f : List ℕ) (place : ℕ) (whole : IsWhole h f plac
     link_is = number_same m 16 bytes (drop place f) (omega (arith, long)) is ∙ sym (number_behind f place 16);
     kind =
         sym (get_or-take m bytes 24 0 (omega (arith, long))) ∙ ap (λ (l : List ℕ). get_or l 24 0) is ∙ get_or-take m (drop place f) 24 0 (omega (arith, long))
-        ∙ sym (get_or-drop 24 (drop place f) 0 0) ∙ ap (λ (l : List ℕ). get_or l 0 0) body_told ∙ kind_text b place rest;
+        ∙ sym (get_or-drop 24 (drop place f) 0 0) ∙ ap (λ (l : List ℕ). get_or l 0 0) text_told ∙ kind_text b place rest;
     key = ap (λ (l : List ℕ). from_be_bytes w16 l) (part_told 2 2 (omega (arith, long)) ∙ key_text b place rest) ∙ from_be_bytes-to_be_bytes_2 (length b.key) fits;
     value = ap (λ (l : List ℕ). from_be_bytes w32 l) (part_told 4 4 (omega (arith, long)) ∙ value_text b place rest) ∙ from_be_bytes-to_be_bytes_4 (length b.value) (omega (arith, value_fits));
   }

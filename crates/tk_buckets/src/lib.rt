@@ -9,7 +9,7 @@ mod read;
 
 pub use frame::writes_leave_chains;
 pub use linking::{insert, unlink};
-pub use lookup::{FoundBlock, find_block};
+pub use lookup::{FoundBlock, fill_value, find_block};
 pub use places::{PlaceList, chain};
 pub use read::number_at;
 

@@ -6,7 +6,7 @@ ghost use Rattle.tk_model.specs.Orders.{same_bytes};
 ghost use Rattle.tk_block.specs.Number.{u16_in, u32_in, u64_in};
 ghost use Rattle.tk_block.specs.declared.head.StaticHead.{StaticHead};
 ghost use Rattle.tk_buckets.specs.Chain.{IsLinked, IsWhole};
-ghost use Rattle.tk_buckets.specs.Lookup.{body_in_block, read_of_block, read_of_chain, Finds};
+ghost use Rattle.tk_buckets.specs.Lookup.{IsBlockOf, body_in_block, read_of_block, read_of_chain, Finds};
 ghost use Rattle.tk_buckets.specs.Seen.{Sees, shown_block};
 
 use tk_block::{u16_at, u32_at, u64_at};
@@ -172,4 +172,33 @@ pub fn find_block<D: Disk>(
         steps += 1;
     }
     Ok(None)
+}
+
+/// Fills the answer with the front of the value of a block that was found, of which the buffer has as much as it can.
+pub fn fill_value<D: Disk>(
+    disk: &mut D,
+    block: &FoundBlock,
+    buffer: &[u8],
+    key: &[u8],
+    into: &mut [u8],
+) -> Result<(), DiskError>
+    requires key { 40 + length key.now ≤ length buffer.now }
+    ensures filled { IfSome (D.image disk.old) (λ f. length f < 2 ^ 64 → length into.old ≤ block.now.value_len
+        → (x : IsBlockOf f key.now buffer.now block.now)
+        → IfOk result (λ _. into.new ≡ take (length into.old) x.body.value)) }
+    ensures cost { D.taken_count disk.new ≤ D.taken_count disk.old
+        + (length into.old - (length buffer.now - (40 + length key.now))) }
+    ensures image { D.image disk.new ≡ D.image disk.old }
+    ensures more { D.taken_count disk.old ≤ D.taken_count disk.new }
+    ensures cause { HasCause (D.fault_count disk.old) (D.fault_count disk.new) result }
+    ensures still { OnlyReads D.may_leave D.moment D.left_since D.past D.left_with disk.old disk.new }
+{
+    let start = KEY + key.len();
+    let have = into.len().min(buffer.len() - start);
+    into[..have].copy_from_slice(&buffer[start..start + have]);
+    if have < into.len() {
+        let at = block.place.saturating_add(buffer.len() as u64);
+        read_bytes(disk, at, &mut into[have..])?;
+    }
+    Ok(())
 }
