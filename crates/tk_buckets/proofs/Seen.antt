@@ -1,5 +1,5 @@
 -- What reading a block's front and then the rest says of it.
-use Rattle.std.proofs.Common.{◌≡◌, ℕ, ◌+◌, ◌-◌, ◌<◌, ◌≤◌, ◌^◌, List, [], ◌++◌, length, take, drop, get_or, replicate, refl, sym, ◌∙◌, ap, subst, arith, append_assoc, length-append, take-append-drop}
+use Rattle.std.proofs.Common.{◌≡◌, ℕ, ◌+◌, ◌-◌, ◌<◌, ◌≤◌, ◌^◌, List, [], ◌++◌, length, take, drop, get_or, refl, sym, ◌∙◌, ap, subst, arith, append_assoc, take-append-drop}
 use Rattle.std.specs.Prelude.{Bool, true, false, ◌==◌, ◌&&◌, min, max, Option, Some, None, IfSome, Result, Ok, Err, IfOk, OnOk, if◌then◌else◌}
 use Rattle.std.specs.Int.{w16, w32, w64, to_be_bytes, from_be_bytes}
 use Rattle.std.proofs.lemmas.Bool.{eq-eqb, eqb-true}
@@ -16,7 +16,7 @@ use Rattle.tk_block.specs.declared.head.StaticHead.{StaticHead}
 use Rattle.tk_block.specs.Number.{u16_in, u32_in, u64_in}
 use Rattle.tk_block.specs.Text.{checked, check_number}
 use Rattle.tk_block.specs.Blocks.{numbers_text, body_front, body_text, body_at, room_of}
-use Rattle.tk_block.proofs.BodyGrammar.{bodies, length-body_text}
+use Rattle.tk_block.proofs.BodyGrammar.{bodies}
 use Rattle.tk_block.proofs.Cells.{within}
 use Rattle.tk_buckets.specs.Chain.{IsWhole, extent_in, link_in}
 use Rattle.tk_buckets.specs.Lookup.{body_in_block, has_key, may_have as body_may_have, read_of_block}

@@ -1,9 +1,9 @@
 -- What a look-up along a chain finds, and what it reads.
-use Rattle.std.specs.Prelude.{◌≡◌, ℕ, ◌+◌, ◌-◌, ◌≤◌, min, max, Bool, true, false, List, [], ◌∷◌, length, take, drop, Option, Some, None, if◌then◌else◌, ◌==◌, ◌&&◌}
+use Rattle.std.specs.Prelude.{◌≡◌, ℕ, ◌+◌, ◌-◌, ◌≤◌, min, max, Bool, false, List, [], ◌∷◌, length, take, drop, Option, Some, None, if◌then◌else◌, ◌==◌, ◌&&◌}
 use Rattle.tk_model.specs.Orders.{same_bytes}
 use Rattle.tk_block.specs.Blocks.{body_at, room_of}
 use Rattle.tk_block.specs.declared.block.Body.{Body}
-use Rattle.tk_buckets.specs.Chain.{extent_in, link_in}
+use Rattle.tk_buckets.specs.Chain.{extent_in}
 use Rattle.tk_buckets.specs.declared.lookup.FoundBlock.{FoundBlock}
 
 -- the body of the block at a place
