@@ -45,7 +45,8 @@ fn read_bytes<D: Disk>(disk: &mut D, at: u64, into: &mut [u8]) -> Result<(), Dis
     ensures image { D.image disk.new ≡ D.image disk.old }
     ensures more { D.taken_count disk.old ≤ D.taken_count disk.new }
     ensures cause { HasCause (D.fault_count disk.old) (D.fault_count disk.new) result }
-    ensures still { OnlyReads D.may_leave D.moment D.left_since D.past D.left_with disk.old disk.new }
+    ensures still { OnlyReads D.may_leave D.moment D.left_since D.past D.left_with
+        disk.old disk.new }
 {
     disk.read_at(at, into)?;
     Ok(())
@@ -61,14 +62,16 @@ fn read_part<D: Disk>(
 ) -> Result<(), DiskError>
     requires from { from ≤ length buffer.old }
     requires end { end ≤ length buffer.old }
-    ensures bytes { IfSome (D.image disk.old) (λ f. place + from < 2 ^ 64 → end ≤ length (drop place f)
+    ensures bytes { IfSome (D.image disk.old) (λ f. place + from < 2 ^ 64
+        → end ≤ length (drop place f)
         → take from buffer.old ≡ take from (drop place f)
         → IfOk result (λ _. take (max from end) buffer.new ≡ take (max from end) (drop place f))) }
     ensures cost { D.taken_count disk.new ≤ D.taken_count disk.old + (end - from) }
     ensures image { D.image disk.new ≡ D.image disk.old }
     ensures more { D.taken_count disk.old ≤ D.taken_count disk.new }
     ensures cause { HasCause (D.fault_count disk.old) (D.fault_count disk.new) result }
-    ensures still { OnlyReads D.may_leave D.moment D.left_since D.past D.left_with disk.old disk.new }
+    ensures still { OnlyReads D.may_leave D.moment D.left_since D.past D.left_with
+        disk.old disk.new }
 {
     if end <= from {
         return Ok(());
@@ -85,7 +88,8 @@ fn may_have(buffer: &[u8], key: &[u8]) -> bool
     requires { 48 ≤ length buffer.now }
     ensures short { result ≡ true → length key.now < 65536 }
     ensures value { result ≡ ((u16_in buffer.now 26 == length key.now)
-        && same_bytes (take (min (length key.now) 8) key.now) (take (min (length key.now) 8) (drop 40 buffer.now))) }
+        && same_bytes (take (min (length key.now) 8) key.now)
+        (take (min (length key.now) 8) (drop 40 buffer.now))) }
 {
     let first = key.len().min(FRONT - KEY);
     u16_at(buffer, KEY_LEN) as usize == key.len()
@@ -101,17 +105,18 @@ fn has_key_at<D: Disk>(
 ) -> Result<bool, DiskError>
     requires front { 48 ≤ length buffer.old }
     requires key { min 65575 (40 + length key.now) ≤ length buffer.old }
-    ensures sees { (h : StaticHead) → IfSome (D.image disk.old) (λ f. IsWhole h f place → length f < 2 ^ 64
-        → IfOk result (Sees f key.now place buffer.new)) }
-    ensures cost { (h : StaticHead) → IfSome (D.image disk.old) (λ f. IsWhole h f place → length f < 2 ^ 64
-        → D.taken_count disk.new ≤ D.taken_count disk.old
+    ensures sees { (h : StaticHead) → IfSome (D.image disk.old) (λ f. IsWhole h f place
+        → length f < 2 ^ 64 → IfOk result (Sees f key.now place buffer.new)) }
+    ensures cost { (h : StaticHead) → IfSome (D.image disk.old) (λ f. IsWhole h f place
+        → length f < 2 ^ 64 → D.taken_count disk.new ≤ D.taken_count disk.old
         + read_of_block key.now (length buffer.old) (body_in_block f place)) }
     ensures most { D.taken_count disk.new ≤ D.taken_count disk.old + length buffer.old }
     ensures short { IfOk result (λ has. has ≡ true → length key.now < 65536) }
     ensures image { D.image disk.new ≡ D.image disk.old }
     ensures more { D.taken_count disk.old ≤ D.taken_count disk.new }
     ensures cause { HasCause (D.fault_count disk.old) (D.fault_count disk.new) result }
-    ensures still { OnlyReads D.may_leave D.moment D.left_since D.past D.left_with disk.old disk.new }
+    ensures still { OnlyReads D.may_leave D.moment D.left_since D.past D.left_with
+        disk.old disk.new }
 {
     read_part(disk, place, buffer, 0, FRONT)?;
     if !may_have(buffer, key) {
@@ -149,18 +154,20 @@ pub fn find_block<D: Disk>(
     requires front { 48 ≤ length buffer.old }
     requires key { min 65575 (40 + length key.now) ≤ length buffer.old }
     // the answer
-    ensures found { (h : StaticHead) (places : List ℕ) → IfSome (D.image disk.old) (λ f. IsLinked h f first places
-        → IfOk result (Finds f key.now places buffer.new)) }
+    ensures found { (h : StaticHead) (places : List ℕ) → IfSome (D.image disk.old) (λ f.
+        IsLinked h f first places → IfOk result (Finds f key.now places buffer.new)) }
     ensures short { IfOk result (λ x. IfSome x (λ _. length key.now < 65536)) }
     // what was read
-    ensures cost { (h : StaticHead) (places : List ℕ) → IfSome (D.image disk.old) (λ f. IsLinked h f first places
-        → D.taken_count disk.new ≤ D.taken_count disk.old + read_of_chain f key.now (length buffer.old) places) }
+    ensures cost { (h : StaticHead) (places : List ℕ) → IfSome (D.image disk.old) (λ f.
+        IsLinked h f first places → D.taken_count disk.new
+        ≤ D.taken_count disk.old + read_of_chain f key.now (length buffer.old) places) }
     ensures bound { D.taken_count disk.new ≤ D.taken_count disk.old + len / 48 * length buffer.old }
     ensures more { D.taken_count disk.old ≤ D.taken_count disk.new }
     // the disk
     ensures image { D.image disk.new ≡ D.image disk.old }
     ensures cause { HasCause (D.fault_count disk.old) (D.fault_count disk.new) result }
-    ensures still { OnlyReads D.may_leave D.moment D.left_since D.past D.left_with disk.old disk.new }
+    ensures still { OnlyReads D.may_leave D.moment D.left_since D.past D.left_with
+        disk.old disk.new }
 {
     let mut place = first;
     let mut steps = 0;
@@ -183,15 +190,16 @@ pub fn fill_value<D: Disk>(
     into: &mut [u8],
 ) -> Result<(), DiskError>
     requires key { 40 + length key.now ≤ length buffer.now }
-    ensures filled { IfSome (D.image disk.old) (λ f. length f < 2 ^ 64 → length into.old ≤ block.now.value_len
-        → (x : IsBlockOf f key.now buffer.now block.now)
+    ensures filled { IfSome (D.image disk.old) (λ f. length f < 2 ^ 64
+        → length into.old ≤ block.now.value_len → (x : IsBlockOf f key.now buffer.now block.now)
         → IfOk result (λ _. into.new ≡ take (length into.old) x.body.value)) }
     ensures cost { D.taken_count disk.new ≤ D.taken_count disk.old
         + (length into.old - (length buffer.now - (40 + length key.now))) }
     ensures image { D.image disk.new ≡ D.image disk.old }
     ensures more { D.taken_count disk.old ≤ D.taken_count disk.new }
     ensures cause { HasCause (D.fault_count disk.old) (D.fault_count disk.new) result }
-    ensures still { OnlyReads D.may_leave D.moment D.left_since D.past D.left_with disk.old disk.new }
+    ensures still { OnlyReads D.may_leave D.moment D.left_since D.past D.left_with
+        disk.old disk.new }
 {
     let start = KEY + key.len();
     let have = into.len().min(buffer.len() - start);
