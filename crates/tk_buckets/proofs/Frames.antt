@@ -7,9 +7,9 @@ use Rattle.tk_disk.specs.Crash.{Torn}
 use Rattle.tk_block.specs.Number.{u64_in}
 use Rattle.tk_block.specs.Text.{base_of}
 use Rattle.tk_block.specs.declared.head.StaticHead.{StaticHead}
-use Rattle.tk_buckets.specs.Chain.{IsWhole, IsBeside, AllBeside, IsApart, AreApart, IsLinked, IsChain, extent_in, link_in, head_cell, has_block, cell_to}
+use Rattle.tk_buckets.specs.Chain.{IsBeside, AllBeside, IsApart, AreApart, IsLinked, IsChain, extent_in, link_in, head_cell, has_block, cell_to}
 use Rattle.tk_buckets.specs.Frame.{AreInTurn, AllAmong, NoneAmong, HasBody, WritesLeaveChains}
-use Rattle.tk_buckets.proofs.Links.{Keeps, AllKept, IsInside, all_kept, whole_with, chain_kept, head_before}
+use Rattle.tk_buckets.proofs.Links.{AllKept, IsInside, all_kept, whole_with, chain_kept, head_before}
 use Rattle.tk_buckets.proofs.Unlinks.{inside_beside, some_behind, has_whole}
 
 -- bytes beside all of these blocks are beside each

@@ -1,5 +1,5 @@
 -- What a crash at any moment of a call on a bucket leaves.
-use Rattle.std.proofs.Common.{◌≡◌, inl, ⊎_elim, ◌∙◌, ℕ, true, List, subst, sym}
+use Rattle.std.proofs.Common.{◌≡◌, inl, ⊎_elim, ℕ, true, List, subst, sym}
 use Rattle.std.specs.Int.{w64, to_be_bytes}
 use Rattle.std.specs.Prelude.{◌⊎◌, Option, Some, None, IfSome, Result, OnOk}
 use Rattle.tk_disk.specs.Crash.{Torn, Follows, Elapses, LeavesOnly, PastOnly}

@@ -1,5 +1,5 @@
 -- What a write of n bytes leaves of chains, whole or torn.
-use Rattle.std.specs.Prelude.{◌≡◌, ◌⊎◌, ℕ, ◌+◌, ◌^◌, ◌<◌, ◌≤◌, List, [], ◌∷◌, length, drop, Bool, true, false, Some}
+use Rattle.std.specs.Prelude.{◌≡◌, ◌⊎◌, ℕ, ◌+◌, ◌^◌, ◌<◌, ◌≤◌, List, [], ◌∷◌, length, drop, true, false, Some}
 use Rattle.tk_disk.specs.Crash.{Torn}
 use Rattle.tk_block.specs.Text.{base_of}
 use Rattle.tk_block.specs.Blocks.{body_at, room_of}

@@ -36,13 +36,14 @@ pub fn insert<D: Disk>(
     // a crash: the head's eight bytes are all that is written
     ensures crash { Follows (Torn (head_cell bucket) 8) (D.may_leave disk.old) (D.may_leave disk.new) }
     ensures time { LeavesOnly D.moment D.left_since disk.old disk.new (λ c. (d : List ℕ) × D.may_leave disk.old d × Torn (head_cell bucket) 8 d c) }
-    ensures past { Writes (head_cell bucket) (to_be_bytes w64 place) (D.past disk.old) (D.past disk.new) }
-    ensures told_past { IfSome (D.image disk.old) (λ _. OnOk result
-        (D.past disk.new ≡ with_write (head_cell bucket) (to_be_bytes w64 place) (D.past disk.old))) }
-    ensures past_only { PastOnly D.moment D.left_with disk.old disk.new
+    ensures past { Writes (head_cell bucket) (to_be_bytes w64 place)
+        (D.past disk.old) (D.past disk.new) }
+    ensures told_past { IfSome (D.image disk.old) (λ _. OnOk result (D.past disk.new
+        ≡ with_write (head_cell bucket) (to_be_bytes w64 place) (D.past disk.old))) }
+    ensures pasts { PastOnly D.moment D.left_with disk.old disk.new
         (Writes (head_cell bucket) (to_be_bytes w64 place) (D.past disk.old)) }
-    ensures pasts { Elapses (D.moment disk.old) (D.moment disk.new) (D.left_with disk.old) (D.left_with disk.new)
-        (λ x. (x.0 ≡ D.past disk.new) × D.may_leave disk.new x.1) }
+    ensures time_with { Elapses (D.moment disk.old) (D.moment disk.new)
+        (D.left_with disk.old) (D.left_with disk.new) (λ x. (x.0 ≡ D.past disk.new) × D.may_leave disk.new x.1) }
 {
     disk.write_at(64 + 8 * bucket, &place.to_be_bytes())
 }
@@ -95,33 +96,39 @@ pub fn unlink<D: Disk>(
     requires size { IfSome (D.image disk.old) (λ f. length f ≤ 2 ^ 40) }
     // the file and its chains
     ensures written { IfInChain (D.image disk.old) head.now bucket place (λ f places. OnOk result
-        (D.image disk.new ≡ Some (put_at (cell_to (head_cell bucket) place places) (to_be_bytes w64 (link_in f place)) f))) }
+        (D.image disk.new ≡ Some (put_at (cell_to (head_cell bucket) place places)
+        (to_be_bytes w64 (link_in f place)) f))) }
     ensures chain { IfInChain (D.image disk.old) head.now bucket place (λ _ places. OnOk result
         (IfSome (D.image disk.new) (λ g. IsChain head.now g bucket (without place places)))) }
     // a bucket of which no block has a byte in common with one of this bucket keeps its chain
     ensures others { (other : ℕ) (rest : List ℕ) → other < 2 ^ head.now.p → other ≢ bucket
-        → IfInChain (D.image disk.old) head.now bucket place (λ f places. IsChain head.now f other rest
-        → AreApart f places rest → OnOk result (IfSome (D.image disk.new) (λ g. IsChain head.now g other rest))) }
+        → IfInChain (D.image disk.old) head.now bucket place (λ f places.
+        IsChain head.now f other rest → AreApart f places rest
+        → OnOk result (IfSome (D.image disk.new) (λ g. IsChain head.now g other rest))) }
     ensures told { is_some (D.image disk.new) ≡ is_some (D.image disk.old) }
     // its counts
     ensures more { D.taken_count disk.old ≤ D.taken_count disk.new }
     ensures cause { HasCause (D.fault_count disk.old) (D.fault_count disk.new) result }
     // a crash: the eight bytes of the cell are all that is written
     ensures crash { IfInChain (D.image disk.old) head.now bucket place (λ _ places.
-        Follows (Torn (cell_to (head_cell bucket) place places) 8) (D.may_leave disk.old) (D.may_leave disk.new)) }
+        Follows (Torn (cell_to (head_cell bucket) place places) 8)
+        (D.may_leave disk.old) (D.may_leave disk.new)) }
     ensures time { IfInChain (D.image disk.old) head.now bucket place (λ _ places.
         LeavesOnly D.moment D.left_since disk.old disk.new
-        (λ c. (d : List ℕ) × D.may_leave disk.old d × Torn (cell_to (head_cell bucket) place places) 8 d c)) }
+        (λ c. (d : List ℕ) × D.may_leave disk.old d
+        × Torn (cell_to (head_cell bucket) place places) 8 d c)) }
     ensures past { IfInChain (D.image disk.old) head.now bucket place (λ f places.
         Writes (cell_to (head_cell bucket) place places) (to_be_bytes w64 (link_in f place))
         (D.past disk.old) (D.past disk.new)) }
-    ensures told_past { IfInChain (D.image disk.old) head.now bucket place (λ f places. OnOk result (D.past disk.new
-        ≡ with_write (cell_to (head_cell bucket) place places) (to_be_bytes w64 (link_in f place)) (D.past disk.old))) }
-    ensures past_only { IfInChain (D.image disk.old) head.now bucket place (λ f places.
+    ensures told_past { IfInChain (D.image disk.old) head.now bucket place (λ f places.
+        OnOk result (D.past disk.new ≡ with_write (cell_to (head_cell bucket) place places)
+        (to_be_bytes w64 (link_in f place)) (D.past disk.old))) }
+    ensures pasts { IfInChain (D.image disk.old) head.now bucket place (λ f places.
         PastOnly D.moment D.left_with disk.old disk.new
-        (Writes (cell_to (head_cell bucket) place places) (to_be_bytes w64 (link_in f place)) (D.past disk.old))) }
-    ensures pasts { Elapses (D.moment disk.old) (D.moment disk.new) (D.left_with disk.old) (D.left_with disk.new)
-        (λ x. (x.0 ≡ D.past disk.new) × D.may_leave disk.new x.1) }
+        (Writes (cell_to (head_cell bucket) place places)
+        (to_be_bytes w64 (link_in f place)) (D.past disk.old))) }
+    ensures time_with { Elapses (D.moment disk.old) (D.moment disk.new)
+        (D.left_with disk.old) (D.left_with disk.new) (λ x. (x.0 ≡ D.past disk.new) × D.may_leave disk.new x.1) }
 {
     let len = disk.len()?;
     let Some(cell) = cell_of(disk, 64 + 8 * bucket, place, len)? else {

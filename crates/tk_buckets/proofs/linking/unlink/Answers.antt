@@ -147,12 +147,12 @@ returns-clause-told_past g c = λ places.
     (found_in c.args.head.now image (g.D.Disk.image c.len.new.self) c.args.bucket c.args.place places c.in_ok-cell.field-0 c.requires.bucket c.len.ensures.image (c.in_ok-cell.ensures.found c.args.head.now places))
     (subst (λ (o : Option (List ℕ)). IfSome o (λ f. c.saturating_add.result + 8 ≤ length f → c.in_ok-link.link ≡ u64_in f c.saturating_add.result)) (c.cell_of.ensures.image ∙ c.len.ensures.image) c.in_ok-link.ensures.value))
 
-pub returns-clause-pasts : goal.returns-clause-pasts
-returns-clause-pasts g c =
+pub returns-clause-time_with : goal.returns-clause-time_with
+returns-clause-time_with g c =
     pasts_joined g.D.Disk.may_leave g.D.Disk.moment g.D.Disk.left_since g.D.Disk.past g.D.Disk.left_with g.met.D.Disk.counts_with c.args.disk.now c.number_at.new.disk c.write_at.new.self
     (reads_joined g.D.Disk.may_leave g.D.Disk.moment g.D.Disk.left_since g.D.Disk.past g.D.Disk.left_with g.met.D.Disk.counts_now g.met.D.Disk.counts_with c.args.disk.now c.cell_of.new.disk c.number_at.new.disk (reads_joined g.D.Disk.may_leave g.D.Disk.moment g.D.Disk.left_since g.D.Disk.past g.D.Disk.left_with g.met.D.Disk.counts_now g.met.D.Disk.counts_with c.args.disk.now c.len.new.self c.cell_of.new.disk (record { crash = c.len.ensures.crash; time = c.len.ensures.time; past = c.len.ensures.past; pasts = c.len.ensures.pasts }) c.cell_of.ensures.still) c.number_at.ensures.still) c.write_at.ensures.pasts
 
-pub returns-clause-past_only : goal.returns-clause-past_only
-returns-clause-past_only g c = λ places.
+pub returns-clause-pasts : goal.returns-clause-pasts
+returns-clause-pasts g c = λ places.
     IfSome_then (g.D.Disk.image c.args.disk.now) (returns-clause-past g c places)
-    (λ f known chain has. writes_only g.D.Disk.may_leave g.D.Disk.moment g.D.Disk.past g.D.Disk.left_with g.met.D.Disk.only_with c.args.disk.now c.write_at.new.self (returns-clause-pasts g c) _ _ (known chain has))
+    (λ f known chain has. writes_only g.D.Disk.may_leave g.D.Disk.moment g.D.Disk.past g.D.Disk.left_with g.met.D.Disk.only_with c.args.disk.now c.write_at.new.self (returns-clause-time_with g c) _ _ (known chain has))
