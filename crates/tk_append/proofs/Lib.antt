@@ -3,6 +3,8 @@ pub mod ChainsSteps
 pub mod Checked
 pub mod ClosedFiles
 pub mod DiskChecks
+pub mod Fair
+pub mod FairPasts
 pub mod FreshSteps
 pub mod Fronts
 pub mod Groupings
@@ -11,6 +13,7 @@ pub mod KeySteps
 pub mod Layouts
 pub mod LogSteps
 pub mod NewestHeads
+pub mod PastSteps
 pub mod PiecesSteps
 pub mod Readings
 pub mod Reopened

@@ -34,7 +34,7 @@ fn length_of<D: Disk>(disk: &mut D) -> Result<u64, OpenError>
     ensures image { D.image disk.new ≡ D.image disk.old }
     ensures outside { IfErr result IsOutside }
     ensures cause { HasOpenCause (D.fault_count disk.old) (D.fault_count disk.new) result }
-    ensures still { OnlyReads D.may_leave D.moment D.left_since disk.old disk.new }
+    ensures still { OnlyReads D.may_leave D.moment D.left_since D.past D.left_with disk.old disk.new }
 {
     match disk.len() {
         Ok(len) => Ok(len),
@@ -93,7 +93,7 @@ fn read_front<D: Disk>(disk: &mut D, kinds: &[u8]) -> Result<Found, OpenError>
     ensures fails { IfSome (D.image disk.old) (λ f. (writable : Bool) (shard : Shard) → IfErr result (λ e. TellsCause e (first_fault kinds.now writable shard f))) }
     ensures image { D.image disk.new ≡ D.image disk.old }
     ensures cause { HasOpenCause (D.fault_count disk.old) (D.fault_count disk.new) result }
-    ensures still { OnlyReads D.may_leave D.moment D.left_since disk.old disk.new }
+    ensures still { OnlyReads D.may_leave D.moment D.left_since D.past D.left_with disk.old disk.new }
 {
     let size = length_of(disk)?;
     if size < 64 {
@@ -140,7 +140,7 @@ fn check_end<D: Disk>(
         → IfSome (D.image disk.old) (λ f. 64 + 8 * length walker.old.heads.items ≤ length f → IfErr result (λ e. TellsCause e (end_fault writable h closing.now f (Ends w)))) }
     ensures image { D.image disk.new ≡ D.image disk.old }
     ensures cause { HasOpenCause (D.fault_count disk.old) (D.fault_count disk.new) result }
-    ensures still { OnlyReads D.may_leave D.moment D.left_since disk.old disk.new }
+    ensures still { OnlyReads D.may_leave D.moment D.left_since D.past D.left_with disk.old disk.new }
 {
     if let Some(first) = walker.open_group {
         return Err(OpenError::BrokenAt(first.place));
@@ -166,7 +166,7 @@ pub(crate) fn check_disk<D: Disk>(
     ensures head { IfSome (D.image disk.old) (λ f. IfOk result (λ found. static_at f ≡ Some found.head)) }
     ensures image { D.image disk.new ≡ D.image disk.old }
     ensures cause { HasOpenCause (D.fault_count disk.old) (D.fault_count disk.new) result }
-    ensures still { OnlyReads D.may_leave D.moment D.left_since disk.old disk.new }
+    ensures still { OnlyReads D.may_leave D.moment D.left_since D.past D.left_with disk.old disk.new }
 {
     let found = read_front(disk, kinds)?;
     let mut walker = walk_file(alloc, disk, &found.head, shard, found.closing.size)?;

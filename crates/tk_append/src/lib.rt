@@ -20,7 +20,7 @@ mod window;
 
 pub use extent::extent_of_change;
 pub use fresh::write_fresh;
-pub use law::{closed_files_open, images_restore};
+pub use law::{closed_files_open, fair_pasts_restore, images_restore};
 pub use log::GroupLog;
 pub use open::{check_all, open_log};
 pub use read::{CountedLog, read_counted};

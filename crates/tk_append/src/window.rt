@@ -22,7 +22,7 @@ pub(crate) fn read_piece<D: Disk>(disk: &mut D, at: u64, into: &mut [u8]) -> Res
     ensures outside { IfSome (D.image disk.old) (λ f. at + length into.old ≤ length f → IfErr result IsOutside) }
     ensures image { D.image disk.new ≡ D.image disk.old }
     ensures cause { HasOpenCause (D.fault_count disk.old) (D.fault_count disk.new) result }
-    ensures still { OnlyReads D.may_leave D.moment D.left_since disk.old disk.new }
+    ensures still { OnlyReads D.may_leave D.moment D.left_since D.past D.left_with disk.old disk.new }
 {
     match disk.read_at(at, into) {
         Ok(got) if got == into.len() => Ok(()),
@@ -105,7 +105,7 @@ impl Window {
         ensures outside { IfSome (D.image disk.old) (λ f. at + count ≤ length f → IfErr result IsOutside) }
         ensures image { D.image disk.new ≡ D.image disk.old }
         ensures cause { HasOpenCause (D.fault_count disk.old) (D.fault_count disk.new) result }
-        ensures still { OnlyReads D.may_leave D.moment D.left_since disk.old disk.new }
+        ensures still { OnlyReads D.may_leave D.moment D.left_since D.past D.left_with disk.old disk.new }
     {
         let end = self.end;
         read_piece(disk, at, &mut self.buffer[end..end + count])?;
@@ -131,7 +131,7 @@ impl Window {
         ensures outside { IfSome (D.image disk.old) (λ f. place + left ≤ length f → IfErr result IsOutside) }
         ensures image { D.image disk.new ≡ D.image disk.old }
         ensures cause { HasOpenCause (D.fault_count disk.old) (D.fault_count disk.new) result }
-        ensures still { OnlyReads D.may_leave D.moment D.left_since disk.old disk.new }
+        ensures still { OnlyReads D.may_leave D.moment D.left_since D.past D.left_with disk.old disk.new }
     {
         let held = self.as_slice().len() as u64;
         if need.min(left) <= held {
@@ -157,7 +157,7 @@ impl Window {
         ensures outside { IfSome (D.image disk.old) (λ f. place + left ≤ length f → IfErr result IsOutside) }
         ensures image { D.image disk.new ≡ D.image disk.old }
         ensures cause { HasOpenCause (D.fault_count disk.old) (D.fault_count disk.new) result }
-        ensures still { OnlyReads D.may_leave D.moment D.left_since disk.old disk.new }
+        ensures still { OnlyReads D.may_leave D.moment D.left_since D.past D.left_with disk.old disk.new }
     {
         self.fill(disk, place, 24, left)?;
         let bytes = self.as_slice();
