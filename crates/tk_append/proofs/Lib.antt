@@ -5,6 +5,7 @@ pub mod ClosedFiles
 pub mod DiskChecks
 pub mod Fair
 pub mod FairPasts
+pub mod FreshPasts
 pub mod FreshSteps
 pub mod Fronts
 pub mod Groupings
@@ -12,6 +13,7 @@ pub mod HeadSteps
 pub mod KeySteps
 pub mod Layouts
 pub mod LogSteps
+pub mod Nameless
 pub mod NewestHeads
 pub mod PastSteps
 pub mod PiecesSteps

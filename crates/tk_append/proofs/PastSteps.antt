@@ -1,5 +1,5 @@
 -- What the pasts were at each moment of a call.
-use Rattle.std.proofs.Common.{◌≡◌, ◌⊎◌, inl, inr, ⊎_elim, ℕ, List, ap, sym, ◌∙◌, subst}
+use Rattle.std.proofs.Common.{◌≡◌, ◌⊎◌, inl, inr, ⊎_elim, ℕ, ◌≤◌, List, ap, sym, ◌∙◌, subst, arith}
 use Rattle.std.specs.Prelude.{Option, Some, None, IfSome}
 use Rattle.std.specs.Option.{option_map}
 use Rattle.tk_disk.specs.Crash.{Elapses, LeavesOnly, PastOnly}
@@ -19,6 +19,19 @@ module _ {D : Type 0} (may_leave : D → List ℕ → Type 0) (moment : D → �
       leaves_weaker moment left_with old new (λ x. (x.0 ≡ past_of old) ⊎ (x.0 ≡ past_of new)) (λ x. P x.0)
       (past_called may_leave moment past_of left_with only_with old new pasts)
       (λ x either. ⊎_elim (λ is. subst P (sym is) was) (λ is. subst P (sym is) now) either)
+
+module _ {D : Type 0} (may_leave : D → List ℕ → Type 0) (past_of : D → Past) (moment : D → ℕ) (left_with : D → ℕ → Past × List ℕ → Type 0) where
+  -- the same of pasts beside images
+  pub moments_held : ((disk : D) (x : Past × List ℕ) → left_with disk (moment disk) x → (x.0 ≡ past_of disk) × may_leave disk x.1)
+      → (old new : D) (P : Past × List ℕ → Type 0) → Elapses (moment old) (moment new) (left_with old) (left_with new) (λ x. (x.0 ≡ past_of new) × may_leave new x.1)
+      → ((c : List ℕ) → may_leave old c → P (past_of old, c)) → ((c : List ℕ) → may_leave new c → P (past_of new, c)) → LeavesOnly moment left_with old new P
+  moments_held only_with old new P pasts was now =
+      let at_new : (x : Past × List ℕ) → (x.0 ≡ past_of new) × may_leave new x.1 → P x = λ x left. subst (λ (p : Past). P (p, x.1)) (sym left.0) (now x.1 left.1) in
+      record {
+        later = pasts.later;
+        each = λ x left. ⊎_elim (λ there. let old_one = only_with old x there in subst (λ (p : Past). P (p, x.1)) (sym old_one.0) (was x.1 old_one.1)) (at_new x) (pasts.nothing_else (moment old) x (omega arith) left);
+        before = λ t x le left. ⊎_elim (λ there. inl there) (λ here. inr (at_new x here)) (pasts.nothing_else t x le left);
+      }
 
 module _ {D : Type 0} (moment : D → ℕ) (left_with : D → ℕ → Past × List ℕ → Type 0) where
   pub past_weaker : (old new : D) (P Q : Past → Type 0) → PastOnly moment left_with old new Q → ((p : Past) → Q p → P p) → PastOnly moment left_with old new P

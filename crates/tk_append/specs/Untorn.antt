@@ -1,6 +1,7 @@
 -- Which images are untorn by what stood at the last hard synchronisation and what was written since.
 use Rattle.std.specs.Prelude.{◌≡◌, ◌⊎◌, ℕ, zero, suc, ◌+◌, ◌-◌, ◌≤◌, true, Bool, List, [], ◌∷◌, length, drop, Option, Some, None, ◌==◌}
 use Rattle.std.specs.List.{list_any}
+use Rattle.tk_disk.specs.Crash.{PastOnly}
 use Rattle.tk_disk.specs.Past.{Write, Past}
 use Rattle.tk_block.specs.Text.{head_at, static_at, base_of}
 use Rattle.tk_block.specs.Blocks.{body_at}
@@ -58,6 +59,15 @@ UntornFrom (suc n) h p q c =
 -- a static header whose check matches is one that stood or was written
 abbrev pub HasKnownHeader : Past → (c : List ℕ) → Type 0
 HasKnownHeader p c = (k : StaticHead) → static_at c ≡ Some k → IsKnownHeader p k
+
+-- no other header became known
+abbrev pub NoNewHeader : (before p : Past) → Type 0
+NoNewHeader before p = (k : StaticHead) → IsKnownHeader p k → IsKnownHeader before k
+
+-- neither now nor at any moment of a call that was made
+pub record WritesNoHeader {D : Type 0} (past_of : D → Past) (moment : D → ℕ) (left_with : D → ℕ → Past × List ℕ → Type 0) (old new : D) : Type 0 where
+  pub now : NoNewHeader (past_of old) (past_of new)
+  pub each : PastOnly moment left_with old new (NoNewHeader (past_of old))
 
 pub record IsUntornBy (h : StaticHead) (p : Past) (c : List ℕ) : Type 0 where
   pub header : HasKnownHeader p c

@@ -114,7 +114,7 @@ fn cut_short(alloc: Global, call: u64) -> Result<MemDisk, Fail> {
     let mut disk = MemDisk::new(alloc, Bytes::new(alloc), 10_000, faults)?;
     let mut pairs = PairList::new(alloc);
     add_record(alloc, &mut pairs, b"a", b"1")?;
-    let _ = write_fresh(alloc, &mut disk, &head_of(1, 0), &pairs);
+    let _ = write_fresh(alloc, &mut disk, &head_of(1, 0), 0, &pairs);
     Ok(disk)
 }
 
