@@ -1,9 +1,10 @@
 -- The pasts and images while a fresh file is written.
-use Rattle.std.proofs.Common.{◌≡◌, ◌⊎◌, inl, inr, ⊎_elim, ℕ, ◌+◌, ◌-◌, ◌≤◌, ◌++◌, List, [], length, take, drop, refl, sym, ◌∙◌, ap, subst, arith, append_assoc, length-append}
+use Rattle.std.proofs.Common.{◌≡◌, ◌⊎◌, inl, inr, ⊎_elim, ℕ, ◌+◌, ◌-◌, ◌≤◌, ◌^◌, ◌++◌, List, [], length, take, drop, refl, sym, ◌∙◌, ap, subst, arith, append_assoc, length-append}
 use Rattle.std.specs.Prelude.{slice_index, replicate, Option, Some, None, IfSome, Result, Ok, Err, OnOk, OnErr}
-use Rattle.std.proofs.lemmas.List.{drop_at, take_at, take_all, take-append-drop, drop-drop, length-drop}
+use Rattle.std.proofs.lemmas.List.{append-nil, drop_at, take_at, take_all, take-append-le, drop-append-le, take-append-drop, drop-drop, length-drop}
 use Rattle.std.proofs.Math.Seq.{take-add}
 use Rattle.std.specs.Option.{option_map}
+use Rattle.std.specs.Io.{StartsWith}
 use Rattle.tk_disk.specs.Crash.{Torn, Follows, Within, Only, Elapses, LeavesOnly, PastOnly}
 use Rattle.tk_disk.specs.Past.{Past, with_write, settled_on, Writes}
 use Rattle.tk_disk.specs.Disk.{put_at}
@@ -16,13 +17,16 @@ use Rattle.tk_block.specs.Text.{static_text, closing_text, base_of}
 use Rattle.tk_block.specs.Layout.{file_text, heads_text, texts, links_of, bodies_of, end_of}
 use Rattle.tk_block.proofs.Grammar.{static_found, length-static_text}
 use Rattle.tk_block.proofs.Lengths.{length-file_text}
-use Rattle.tk_append.specs.Log.{HasGroups, blocks_of}
+use Rattle.tk_append.specs.Log.{AreGroups, HasGroups, blocks_of}
 use Rattle.tk_append.specs.Untorn.{WritesHeader, IsKnownHeader, NoNewHeader}
-use Rattle.tk_append.specs.FairPast.{IsFairPast}
+use Rattle.tk_append.specs.FairPast.{IsFairPast, WholeRestores}
+use Rattle.tk_append.specs.Restored.{groups_text, IsKept}
 use Rattle.tk_append.specs.Fresh.{IsFreshMoment}
 use Rattle.tk_append.proofs.Layouts.{end_of-least}
 use Rattle.tk_append.proofs.Readings.{file_blocks}
 use Rattle.tk_append.proofs.Restoring.{same_part}
+use Rattle.tk_append.proofs.Windows.{cut}
+use Rattle.tk_append.proofs.Fair.{fair_restores}
 use Rattle.tk_append.proofs.FairPasts.{fair_written, fair_settled}
 use Rattle.tk_append.proofs.PastSteps.{moments_held}
 use Rattle.tk_append.proofs.Nameless.{no_static, none_new, known_more}
@@ -157,3 +161,27 @@ module _ (h : StaticHead) (groups : List Group) (count next : ℕ) where
       ∙ ap (λ (l : List ℕ). Some (static_text h ++ l)) (drop_at (replicate 32 0) (drop 32 text) 32 refl)
       ∙ ap (λ (l : List ℕ). Some (l ++ drop 32 text)) (sym (text_front h groups count next))
       ∙ ap (λ (l : List ℕ). Some l) (take-append-drop 32 text)
+
+-- what begins with a file keeps its groups
+whole_kept : (h : StaticHead) (groups : List Group) (count next : ℕ) (c : List ℕ) → StartsWith c (file_text h groups count next) → IsKept h groups c
+whole_kept h groups count next c whole =
+    let text = file_text h groups count next in
+    let after = drop (length text) c in
+    let long = length-file_text h groups count next in
+    let least = end_of-least (base_of h.p) (bodies_of groups) in
+    let is : c ≡ text ++ after = cut c text whole in
+    record {
+      header = ap (λ (l : List ℕ). take 32 l) is ∙ take-append-le 32 text after (omega (arith, long, least)) ∙ text_front h groups count next;
+      heads = omega (arith, ap length is, length-append text after, long, least);
+      blocks =
+          ap (λ (l : List ℕ). take (length (groups_text h groups)) (drop (base_of h.p) l)) is
+          ∙ ap (λ (l : List ℕ). take (length (groups_text h groups)) l) (drop-append-le (base_of h.p) text after (omega (arith, long, least)) ∙ ap (λ (l : List ℕ). l ++ after) (file_blocks h groups count next))
+          ∙ take_at (groups_text h groups) after (length (groups_text h groups)) refl;
+    }
+
+pub whole_restores : WholeRestores
+whole_restores h groups count next p c static small legal whole fair untorn =
+    let none : groups ++ [] ≡ groups = append-nil groups in
+    let r = fair_restores h groups [] (2 ^ 64) p c static small (subst (λ (l : List Group). AreGroups 0 (2 ^ 64) l) (sym none) legal) (omega arith) (whole_kept h groups count next c whole)
+    (subst (λ (l : List Group). IsFairPast h l p) (sym none) fair) untorn in
+    r.2 ∙ ap (λ (l : List Group). groups ++ l) (take_all r.0 [] (omega arith)) ∙ none

@@ -1,9 +1,10 @@
 -- Pasts of a file of groups in which nothing stood or was written that belongs to another.
 use Rattle.std.specs.Prelude.{◌≡◌, ◌⊎◌, ℕ, ◌+◌, ◌^◌, ◌<◌, ◌≤◌, true, List, ◌∷◌, ◌++◌, length, take}
+use Rattle.std.specs.Io.{StartsWith}
 use Rattle.tk_disk.specs.Past.{Write, Past, with_write, settled_on}
 use Rattle.tk_model.specs.declared.record.Group.{Group}
 use Rattle.tk_block.specs.Text.{base_of, is_static}
-use Rattle.tk_block.specs.Layout.{end_of, bodies_of, group_text}
+use Rattle.tk_block.specs.Layout.{end_of, bodies_of, group_text, file_text}
 use Rattle.tk_block.specs.declared.head.StaticHead.{StaticHead}
 use Rattle.tk_append.specs.Log.{AreGroups, HasGroups}
 use Rattle.tk_append.specs.Restored.{restored_groups, IsKept}
@@ -48,3 +49,9 @@ FairWritten =
 -- and at a hard synchronisation
 abbrev pub FairSettled : Type 0
 FairSettled = (h : StaticHead) (groups : List Group) (f : List ℕ) → HasGroups h groups f → IsFairPast h groups (settled_on f)
+
+-- an untorn image with the file of groups at its front is restored to them, where its past is fair for them
+abbrev pub WholeRestores : Type 0
+WholeRestores =
+    (h : StaticHead) (groups : List Group) (count next : ℕ) (p : Past) (c : List ℕ) → is_static h ≡ true → h.generation < 2 ^ 64 → AreGroups 0 (2 ^ 64) groups
+    → StartsWith c (file_text h groups count next) → IsFairPast h groups p → IsUntornBy h p c → restored_groups c ≡ groups
