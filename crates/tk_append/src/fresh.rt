@@ -113,6 +113,5 @@ pub fn write_fresh<D: Disk>(
 {
     write_rest(alloc, disk, head, number, pairs)?;
     disk.write_at(0, &write_static(head))?;
-    disk.sync(true)?;
-    Ok(())
+    disk.sync(true)
 }

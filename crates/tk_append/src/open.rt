@@ -99,7 +99,8 @@ pub fn open_log<D: Disk>(
     }
 }
 
-/// The check of an opening, with no write. Answers the file's header.
+/// The steps of an opening, with no write, for each kind that stands. Whether the kind fits the file's ending is the
+/// caller's test. Answers the file's header.
 pub fn check_all<D: Disk>(
     alloc: Global,
     disk: &mut D,
