@@ -5,3 +5,4 @@ pub mod Mem
 pub mod Bounds
 pub mod Joined
 pub mod Hashing
+pub mod Filling

@@ -1,5 +1,5 @@
 //! Records in hash order, kept by bucket.
-ghost use Rattle.std.specs.Prelude.{◌≡◌, [], ◌∷◌, ◌≤◌, ◌<◌, ◌^◌, ◌+◌, ◌↔◌, length, replicate, take, drop, IsTrue, IfOk, OnOk, OnErr, MatchOption, MatchResult};
+ghost use Rattle.std.specs.Prelude.{◌≡◌, [], ◌∷◌, ◌++◌, ◌≤◌, ◌<◌, ◌^◌, ◌+◌, ◌↔◌, length, replicate, take, drop, IsTrue, IfOk, OnOk, OnErr, MatchOption, MatchResult};
 ghost use Rattle.std.specs.Option.{option_copied};
 ghost use Rattle.tk_model.specs.Hashes.{mix_of, bucket_of};
 ghost use Rattle.tk_model.specs.Places.{StandsAt, StandsNowhere, GoesAt, GoesBefore};
@@ -12,7 +12,10 @@ use crate::parting::Parting;
 use std::alloc::{AllocError, Global};
 use std::cmp::Ordering;
 use std::marker::Model;
-use tk_model::{Bound, Bytes, Change, ListOf, NoMemory, Order, Pair, Way, bucket, is_within, mix};
+use std::mem;
+use tk_model::{
+    Bound, Bytes, Change, ListOf, NoMemory, Order, Pair, PairList, Way, bucket, is_within, mix,
+};
 
 /// The records of a bucket.
 type Bucket = ListOf<HashedPair>;
@@ -163,6 +166,39 @@ fn clear_all(buckets: &mut Vec<Bucket>)
     for i in 0..buckets.len() {
         buckets[i].clear();
     }
+}
+
+/// Puts the records of a bucket behind others.
+fn add_bucket(all: &mut Vec<Pair>, bucket: Bucket) -> Result<(), NoMemory>
+    ensures { OnOk result (all.new.items ≡ all.old.items ++ bucket) }
+{
+    for record in bucket.into_vec() {
+        all.push(record.into_pair())?;
+    }
+    Ok(())
+}
+
+/// All records, bucket by bucket.
+fn all_of(buckets: Vec<Bucket>, count: usize) -> Result<PairList, NoMemory>
+    ensures { IfOk result (λ pairs. pairs ≡ joined buckets.items) }
+{
+    let mut all = Vec::with_capacity(*buckets.allocator(), count)?;
+    for bucket in buckets {
+        add_bucket(&mut all, bucket)?;
+    }
+    Ok(ListOf::from_vec(all))
+}
+
+/// Puts in records that stand in hash order.
+fn fill(records: &mut HashedRecords, pairs: PairList) -> Result<(), NoMemory>
+    requires empty { records.old ≡ [] }
+    requires rising { Rising Hash pairs }
+    ensures { OnOk result (records.new ≡ pairs) }
+{
+    for pair in pairs.into_vec() {
+        records.put(pair)?;
+    }
+    Ok(())
 }
 
 fn first_in<'a>(pairs: &'a [HashedPair], bound: &Bound) -> Option<&'a Pair>
@@ -327,6 +363,30 @@ impl HashedRecords {
             Change::Clear => self.clear(),
         }
         Ok(())
+    }
+
+    /// The records as one list.
+    pub fn into_pairs(self) -> Result<PairList, NoMemory>
+        ensures { IfOk result (λ pairs. pairs ≡ self) }
+    {
+        let HashedRecords { buckets, count, .. } = self;
+        all_of(buckets, count)
+    }
+
+    /// Takes eight times as many buckets where there are four records to each.
+    pub fn widen(&mut self) -> Result<(), NoMemory>
+        ensures { OnOk result (self.new ≡ self.old) }
+    {
+        let Parting { depth, start, p } = self.parting;
+        if p > 21 || self.count >> p < 4 {
+            return Ok(());
+        }
+        let alloc = *self.buckets.allocator();
+        let shared = depth.saturating_sub(p).min(24);
+        let wider = HashedRecords::under(alloc, shared, start >> p, p + 3)?;
+        let narrow = mem::replace(self, wider);
+        narrow.in_hash_order();
+        fill(self, narrow.into_pairs()?)
     }
 
     /// The first record within a bound on the way up.

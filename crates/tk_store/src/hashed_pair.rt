@@ -48,6 +48,13 @@ impl HashedPair {
         HashedPair { hash, pair }
     }
 
+    pub fn into_pair(self) -> Pair
+        ensures { result ≡ self }
+    {
+        let HashedPair { hash: _, pair } = self;
+        pair
+    }
+
     pub fn pair(&self) -> &Pair
         ensures { result.now ≡ self.now }
     {
