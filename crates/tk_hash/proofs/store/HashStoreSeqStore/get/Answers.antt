@@ -23,7 +23,7 @@ returns-in_err-present-clause-looks g c =
       keeps = λ first since hard st.
           read_on g.D.Disk.image g.D.Disk.may_leave g.D.Disk.past g.D.Disk.moment g.D.Disk.left_since g.D.Disk.left_with c.args.self.now _ first since hard
           (same_read g.D.Disk.image c.args.self.now _ c.disk.result.now c.disk.ensures.value (λ unclosed. unclosed) refl refl refl refl refl refl refl refl (λ known. known) (length-lent c.args.self.now.buffer c.get_value.new.buffer) c.get_value.ensures.image)
-          (shelf_same g.D.Disk.image c.args.self.now) still.crash st;
+          (shelf_same g.D.Disk.image c.args.self.now) still st;
       keeps_since = λ t n first since hard st.
           stood_on g.D.Disk.image g.D.Disk.may_leave g.D.Disk.past g.D.Disk.moment g.D.Disk.left_since g.D.Disk.left_with g.met.D.Disk.since_with c.args.self.now _ t n first since hard
           (same_read g.D.Disk.image c.args.self.now _ c.disk.result.now c.disk.ensures.value (λ unclosed. unclosed) refl refl refl refl refl refl refl refl (λ known. known) (length-lent c.args.self.now.buffer c.get_value.new.buffer) c.get_value.ensures.image)
@@ -52,7 +52,7 @@ returns-clause-looks g c =
       keeps = λ first since hard st.
           read_on g.D.Disk.image g.D.Disk.may_leave g.D.Disk.past g.D.Disk.moment g.D.Disk.left_since g.D.Disk.left_with c.args.self.now _ first since hard
           (same_read g.D.Disk.image c.args.self.now _ c.disk.result.now c.disk.ensures.value (λ unclosed. unclosed) refl refl refl refl refl refl refl refl (λ _. key_given g.D.Disk.image g.D.Disk.may_leave g.D.Disk.past c.args.self.now c.disk.result.now c.head.result.now c.args.key.now c.args.out.now c.get_value.new.out c.in_ok-present.present c.remember.new.self c.requires.whole c.disk.ensures.value c.head.ensures c.in_ok-present.ensures.value c.remember.ensures) (length-lent c.args.self.now.buffer c.get_value.new.buffer) c.get_value.ensures.image)
-          (shelf_same g.D.Disk.image c.args.self.now) still.crash st;
+          (shelf_same g.D.Disk.image c.args.self.now) still st;
       keeps_since = λ t n first since hard st.
           stood_on g.D.Disk.image g.D.Disk.may_leave g.D.Disk.past g.D.Disk.moment g.D.Disk.left_since g.D.Disk.left_with g.met.D.Disk.since_with c.args.self.now _ t n first since hard
           (same_read g.D.Disk.image c.args.self.now _ c.disk.result.now c.disk.ensures.value (λ unclosed. unclosed) refl refl refl refl refl refl refl refl (λ _. key_given g.D.Disk.image g.D.Disk.may_leave g.D.Disk.past c.args.self.now c.disk.result.now c.head.result.now c.args.key.now c.args.out.now c.get_value.new.out c.in_ok-present.present c.remember.new.self c.requires.whole c.disk.ensures.value c.head.ensures c.in_ok-present.ensures.value c.remember.ensures) (length-lent c.args.self.now.buffer c.get_value.new.buffer) c.get_value.ensures.image)
