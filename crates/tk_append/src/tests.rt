@@ -123,3 +123,28 @@ fn a_fresh_file_is_checked(rt: HostRuntime) -> Result<(), Fail> {
     assert_eq!(rt; sum_of(&disk), (72, 0x71c84c289f5a334c));
     Ok(())
 }
+
+#[test]
+fn a_fresh_group_has_the_number_that_was_asked_for(rt: HostRuntime) -> Result<(), Fail> {
+    let alloc = rt.alloc();
+    let mut pairs = PairList::new(alloc);
+    add(alloc, &mut pairs, b"a", b"1")?;
+    let mut disk = empty_disk(alloc)?;
+    write_fresh(alloc, &mut disk, &head_of(1, 0), 7, &pairs)?;
+    let groups = restore_groups(alloc, disk.bytes())?;
+    let numbers = groups.as_slice().iter().map(|group| group.number);
+    assert!(rt; numbers.eq([7]));
+    let read = read_counted(alloc, disk, &[1], true, ALONE);
+    assert!(rt; read.is_ok_and(|read| (read.count, read.next) == (1, 8)));
+    Ok(())
+}
+
+#[test]
+fn without_records_the_next_number_is_zero(rt: HostRuntime) -> Result<(), Fail> {
+    let alloc = rt.alloc();
+    let mut disk = empty_disk(alloc)?;
+    write_fresh(alloc, &mut disk, &head_of(1, 0), 7, &PairList::new(alloc))?;
+    let read = read_counted(alloc, disk, &[1], true, ALONE);
+    assert!(rt; read.is_ok_and(|read| (read.count, read.next) == (0, 0)));
+    Ok(())
+}
