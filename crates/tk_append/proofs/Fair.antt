@@ -1,26 +1,26 @@
 -- An image that is untorn by a fair past is restored to a front of the groups.
-use Rattle.std.proofs.Common.{◌≡◌, ◌⊎◌, inl, inr, ℕ, zero, suc, ◌+◌, ◌-◌, ◌<◌, ◌≤◌, ◌^◌, cond, List, [], ◌∷◌, ◌++◌, length, take, drop, refl, sym, ◌∙◌, ap, subst, arith, append_assoc}
+use Rattle.std.proofs.Common.{◌≡◌, inl, inr, ℕ, zero, suc, ◌+◌, ◌-◌, ◌≤◌, cond, List, [], ◌∷◌, ◌++◌, length, take, drop, refl, sym, ◌∙◌, ap, subst, arith, append_assoc}
 use Rattle.std.specs.Prelude.{Option, Some, None}
 use Rattle.std.proofs.lemmas.List.{drop_all, drop-drop, take-append-drop, length-append, length-drop}
 use Rattle.tk_model.specs.declared.record.Group.{Group}
 use Rattle.tk_model.specs.declared.record.ShardOf.{ShardOf}
 use Rattle.tk_block.specs.declared.block.Body.{Body}
 use Rattle.tk_block.specs.declared.head.StaticHead.{StaticHead}
-use Rattle.tk_block.specs.Text.{head_at, static_at, static_text, base_of}
+use Rattle.tk_block.specs.Text.{head_at, static_at, base_of}
 use Rattle.tk_block.specs.Blocks.{body_at, block_text, extent_for, extent_of, room_of, group_bodies}
 use Rattle.tk_block.specs.Grammar.{FitsBody}
 use Rattle.tk_block.specs.Layout.{Placed, laid, end_of, texts, links_of, bodies_of, first_or_none}
 use Rattle.tk_block.proofs.Grammar.{statics}
 use Rattle.tk_block.proofs.BlockReads.{block_head, block_body, block_rest}
-use Rattle.tk_block.proofs.Lengths.{length-texts, length-block_text}
+use Rattle.tk_block.proofs.Lengths.{length-texts}
 use Rattle.tk_block.proofs.Layouts.{end_of-append, bodies_of-append}
-use Rattle.tk_append.specs.Log.{AreGroups, blocks_of}
-use Rattle.tk_append.specs.Opening.{Walk, begin, walked, opened_by}
-use Rattle.tk_append.specs.Restored.{read_block, read_on, read_blocks, complete_groups, groups_in, groups_by, restored_groups, groups_text, IsUntornAt, IsKept}
+use Rattle.tk_append.specs.Log.{blocks_of}
+use Rattle.tk_append.specs.Opening.{Walk, begin, opened_by}
+use Rattle.tk_append.specs.Restored.{read_block, read_on, read_blocks, complete_groups, groups_in, groups_by, restored_groups, groups_text}
 use Rattle.tk_append.proofs.Layouts.{end_of-least}
 use Rattle.tk_append.proofs.Reopened.{Fit, count_upto}
 use Rattle.tk_disk.specs.Past.{Write, Past}
-use Rattle.tk_append.specs.Untorn.{WritesHead, WritesBody, AnyWrite, AllWrites, IsKnownHead, IsKnownBody, UntornFrom, IsUntornBy}
+use Rattle.tk_append.specs.Untorn.{WritesHead, WritesBody, AnyWrite, AllWrites, IsKnownHead, IsKnownBody, UntornFrom}
 use Rattle.tk_append.specs.FairPast.{IsGroupWrite, IsFairWrite, IsFairPast, FairRestores}
 use Rattle.tk_append.proofs.Restoring.{walk_over, over_blocks, Fronted, stop, front_on, front_groups, all_groups, groups_read, groups_fit, groups_front, groups_back, same_number, same_body, no_head_there, no_body_there, updating, alone}
 

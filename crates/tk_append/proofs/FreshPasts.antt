@@ -1,5 +1,5 @@
 -- The pasts and images while a fresh file is written.
-use Rattle.std.proofs.Common.{◌≡◌, ◌⊎◌, inl, inr, ⊎_elim, ℕ, ◌+◌, ◌-◌, ◌≤◌, ◌^◌, ◌++◌, List, [], length, take, drop, refl, sym, ◌∙◌, ap, subst, arith, append_assoc, length-append}
+use Rattle.std.proofs.Common.{◌≡◌, inl, inr, ⊎_elim, ℕ, ◌+◌, ◌-◌, ◌≤◌, ◌^◌, ◌++◌, List, [], length, take, drop, refl, sym, ◌∙◌, ap, subst, arith, append_assoc, length-append}
 use Rattle.std.specs.Prelude.{slice_index, replicate, Option, Some, None, IfSome, Result, Ok, Err, OnOk, OnErr}
 use Rattle.std.proofs.lemmas.List.{append-nil, drop_at, take_at, take_all, take-append-le, drop-append-le, take-append-drop, drop-drop, length-drop}
 use Rattle.std.proofs.Math.Seq.{take-add}
@@ -105,8 +105,11 @@ module _ (h : StaticHead) (groups : List Group) (count next : ℕ) (before : Pas
       ap (λ (n : ℕ). take n c) (omega (arith, long)) ∙ take-add 32 (length text - 32) c ∙ ap (λ (l : List ℕ). l ++ take (length text - 32) (drop 32 c)) front
       ∙ ap (λ (l : List ℕ). take 32 text ++ l) (behind ∙ ap (λ (l : List ℕ). take (length text - 32) l) (drop_at (replicate 32 0) (drop 32 text) 32 refl))
       ∙ sym (take-add 32 (length text - 32) text) ∙ take_all (32 + (length text - 32)) text (omega (arith, long)) in
-      inr (whole, subst (λ (q : Past). IsFairPast h groups q) (sym is)
-      (fair_written h groups (settled_on rest) 0 (static_text h) (fair_settled h groups rest rest_groups) (inl (omega (arith, length-static_text h))))))
+      inr (
+        whole,
+        subst (λ (q : Past). IsFairPast h groups q) (sym is)
+            (fair_written h groups (settled_on rest) 0 (static_text h) (fair_settled h groups rest rest_groups) (inl (omega (arith, length-static_text h)))),
+      ))
       (known_more (settled_on rest) 0 (static_text h) k (subst (λ (q : Past). IsKnownHeader q k) is known))
 
   -- when it is durable

@@ -1,7 +1,7 @@
 -- What is written behind the front makes no header known.
-use Rattle.std.proofs.Common.{◌≡◌, ◌⊎◌, inl, inr, ⊎_elim, ℕ, ◌<◌, ◌++◌, List, [], ◌∷◌, refl, sym, ◌∙◌, subst, arith}
+use Rattle.std.proofs.Common.{◌≡◌, ◌⊎◌, inl, inr, ⊎_elim, ℕ, ◌<◌, ◌++◌, List, [], ◌∷◌, refl, subst, arith}
 use Rattle.std.specs.Prelude.{slice_index, Some}
-use Rattle.tk_disk.specs.Crash.{Elapses, PastOnly}
+use Rattle.tk_disk.specs.Crash.{Elapses}
 use Rattle.tk_disk.specs.Past.{Write, Past, with_write, Writes}
 use Rattle.tk_block.specs.declared.head.StaticHead.{StaticHead}
 use Rattle.tk_block.specs.Text.{static_at, static_text, static_front}

@@ -1,6 +1,6 @@
 -- The pasts that calls of a log leave.
 use Rattle.std.specs.Prelude.{◌≡◌, ◌⊎◌, List, ℕ, Option, IfSome}
-use Rattle.tk_disk.specs.Past.{Past, with_write, settled_on, Writes}
+use Rattle.tk_disk.specs.Past.{Past, settled_on, Writes}
 use Rattle.tk_block.specs.Text.{closing_text}
 use Rattle.tk_block.specs.declared.closing.Closing.{Closing}
 use Rattle.tk_append.specs.LogParts.{with_closing}

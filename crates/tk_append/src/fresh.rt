@@ -42,7 +42,15 @@ fn write_records<D: Disk>(
     disk.write_at(0, &[0; 64])?;
     let mut at = 64;
     put_words(disk, &mut at, &mut waiting, &chains.heads)?;
-    put_records(disk, &mut at, &mut waiting, number, each, pairs, &chains.links)?;
+    put_records(
+        disk,
+        &mut at,
+        &mut waiting,
+        number,
+        each,
+        pairs,
+        &chains.links,
+    )?;
     flush(disk, &mut at, &mut waiting)?;
     Ok(at)
 }
@@ -109,7 +117,7 @@ pub fn write_fresh<D: Disk>(
     ensures cause { HasFaultCause (D.fault_count disk.old) (D.fault_count disk.new) result }
     ensures pasts { IfSome (D.image disk.old) (λ _. LeavesOnly D.moment D.left_with disk.old disk.new
         (IsFreshMoment head.now (fresh_groups head.now.kind number pairs.now)
-            (fresh_text head.now number pairs.now) (D.past disk.old))) }
+        (fresh_text head.now number pairs.now) (D.past disk.old))) }
 {
     write_rest(alloc, disk, head, number, pairs)?;
     disk.write_at(0, &write_static(head))?;

@@ -127,11 +127,11 @@ impl<D: Disk> GroupLog<D> {
             → LeavesOnly D.moment D.left_since (log_disk self.old) (log_disk self.new) (λ c. (d : List ℕ) × D.may_leave (log_disk self.old) d × Torn (log_end self.old) (length (group_text (record { number = number; changes = changes }) (log_end self.old) links)) d c) }
         ensures past { (changes : List Change) (links : List ℕ) → IsReady self.old changes links
             → Writes (log_end self.old) (group_text (record { number = number; changes = changes }) (log_end self.old) links)
-                (D.past (log_disk self.old)) (D.past (log_disk self.new)) }
+            (D.past (log_disk self.old)) (D.past (log_disk self.new)) }
         ensures pasts { (changes : List Change) (links : List ℕ) → IsReady self.old changes links
             → PastOnly D.moment D.left_with (log_disk self.old) (log_disk self.new)
-                (Writes (log_end self.old) (group_text (record { number = number; changes = changes }) (log_end self.old) links)
-                    (D.past (log_disk self.old))) }
+            (Writes (log_end self.old) (group_text (record { number = number; changes = changes }) (log_end self.old) links)
+            (D.past (log_disk self.old))) }
     {
         renumber(&mut self.ready, self.end, number);
         self.disk.write_at(self.end, self.ready.as_slice())?;

@@ -132,7 +132,7 @@ fn a_fresh_group_has_the_number_that_was_asked_for(rt: HostRuntime) -> Result<()
     let mut disk = empty_disk(alloc)?;
     write_fresh(alloc, &mut disk, &head_of(1, 0), 7, &pairs)?;
     let groups = restore_groups(alloc, disk.bytes())?;
-    let numbers = groups.iter().map(|group| group.number);
+    let numbers = groups.as_slice().iter().map(|group| group.number);
     assert!(rt; numbers.eq([7]));
     let read = read_counted(alloc, disk, &[1], true, ALONE);
     assert!(rt; read.is_ok_and(|read| (read.count, read.next) == (1, 8)));

@@ -1,4 +1,4 @@
-use Rattle.std.proofs.Common.{◌≡◌, refl, sym, ◌∙◌, ap, subst, List, ℕ, length}
+use Rattle.std.proofs.Common.{◌≡◌, refl, ◌∙◌, subst, List, ℕ, length}
 use Rattle.std.specs.Prelude.{Option, Some, IfSome, OnOk}
 use Rattle.std.proofs.lemmas.Option.{IfSome_then}
 use Rattle.std.proofs.lemmas.Result.{on_ok_weaker}

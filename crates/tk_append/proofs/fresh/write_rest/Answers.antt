@@ -1,12 +1,11 @@
 use Rattle.std.proofs.Common.{◌≡◌, ℕ, ◌≤◌, ◌^◌, ◌++◌, eqb, List, [], length, drop, refl, sym, ◌∙◌, ap, subst, arith}
-use Rattle.std.specs.Prelude.{replicate, Some, IfSome}
 use Rattle.std.proofs.lemmas.Option.{IfSome_then}
 use Rattle.tk_model.specs.declared.record.Pair.{Pair}
 use Rattle.tk_block.specs.declared.block.Body.{Body}
 use Rattle.tk_block.specs.Text.{base_of}
 use Rattle.tk_block.specs.Layout.{end_of, laid, heads_text, texts, links_of}
 use Rattle.tk_block.proofs.Grammar.{length-closing_text}
-use Rattle.tk_append.specs.Untorn.{NoNewHeader, WritesNoHeader}
+use Rattle.tk_append.specs.Untorn.{NoNewHeader}
 use Rattle.tk_append.specs.Fresh.{fresh_bodies, fresh_text}
 use Rattle.tk_append.proofs.PastSteps.{past_held, past_then}
 use Rattle.tk_append.proofs.Nameless.{none_behind, nameless_called, nameless_joined}

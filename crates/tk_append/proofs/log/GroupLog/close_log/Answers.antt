@@ -1,4 +1,4 @@
-use Rattle.std.proofs.Common.{ℕ, ap, subst, refl}
+use Rattle.std.proofs.Common.{ℕ, subst, refl}
 use Rattle.tk_disk.specs.Crash.{PastOnly}
 use Rattle.tk_block.specs.declared.closing.Closing.{Closing}
 use Rattle.tk_append.specs.LogPasts.{Closes}
