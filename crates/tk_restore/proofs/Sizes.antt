@@ -1,16 +1,15 @@
 -- How long the file of some records is.
-use Rattle.std.proofs.Common.{◌≡◌, ℕ, zero, suc, ◌+◌, ◌<◌, ◌≤◌, ◌^◌, Bool, true, false, eqb, List, [], ◌∷◌, length, drop, get_or, refl, sym, ◌∙◌, ap, subst, arith}
+use Rattle.std.proofs.Common.{◌≡◌, ℕ, ◌+◌, ◌<◌, ◌≤◌, ◌^◌, true, false, eqb, List, ◌∷◌, length, drop, get_or, sym, ◌∙◌, ap, subst, arith}
 use Rattle.std.specs.Prelude.{nat_le}
 use Rattle.std.proofs.lemmas.Bool.Decides.{nat_tests}
 use Rattle.std.proofs.lemmas.List.{drop_more, drop_all}
 use Rattle.tk_model.specs.declared.record.Pair.{Pair}
-use Rattle.tk_model.specs.declared.record.Change.TheVariants.{Put}
 use Rattle.tk_block.specs.declared.block.Body.{Body}
 use Rattle.tk_block.specs.declared.head.StaticHead.{StaticHead}
 use Rattle.tk_block.specs.Text.{base_of}
-use Rattle.tk_block.specs.Blocks.{IsSmall, body_of, extent_of, extent_for}
+use Rattle.tk_block.specs.Blocks.{IsSmall, extent_for}
 use Rattle.tk_block.specs.Layout.{end_of}
-use Rattle.tk_append.specs.Fresh.{AllPairsSmall, fresh_bodies, fresh_groups, fresh_size}
+use Rattle.tk_append.specs.Fresh.{AllPairsSmall, fresh_bodies, fresh_size}
 use Rattle.tk_append.proofs.Layouts.{end_of-each, end_of-least, small_at}
 use Rattle.tk_append.proofs.FreshSteps.{bodies-fresh}
 

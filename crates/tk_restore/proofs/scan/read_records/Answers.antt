@@ -1,4 +1,4 @@
-use Rattle.std.proofs.Common.{◌≡◌, ◌∙◌, List, ℕ, subst}
+use Rattle.std.proofs.Common.{◌∙◌, List, ℕ, subst}
 use Rattle.std.specs.Prelude.{Option}
 use Rattle.tk_append.specs.Windows.{items}
 use Rattle.tk_disk.proofs.Moments.{reads_joined}
