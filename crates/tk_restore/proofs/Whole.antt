@@ -101,7 +101,7 @@ no_clear (p ∷ ps) = no_clear ps
 some_change : (c : Change) (cs : List Change) → (c ∷ cs) ≢ []
 some_change c cs is = cc
 
-together_legal : (next : ℕ) (ps : List Pair) → fresh_next ps ≤ next → AllPairsSmall ps → AreGroups 0 next (together ps)
+together_legal : (next : ℕ) (ps : List Pair) → fresh_next 0 ps ≤ next → AllPairsSmall ps → AreGroups 0 next (together 0 ps)
 together_legal next [] upto all = omega arith
 together_legal next (p ∷ ps) upto all = (omega arith, some_change (Put p) (map Put ps), puts_fit (p ∷ ps) all, no_clear (p ∷ ps), upto)
 
@@ -112,11 +112,11 @@ puts_home : (ps : List Pair) → AllIn alone (map Put ps)
 puts_home [] = tt
 puts_home (p ∷ ps) = (home_key p.key, puts_home ps)
 
-together_home : (ps : List Pair) → AllHome alone (together ps)
+together_home : (ps : List Pair) → AllHome alone (together 0 ps)
 together_home [] = tt
 together_home (p ∷ ps) = (puts_home (p ∷ ps), tt)
 
-next_small : (ps : List Pair) → fresh_next ps ≤ 1
+next_small : (ps : List Pair) → fresh_next 0 ps ≤ 1
 next_small [] = omega arith
 next_small (p ∷ ps) = omega arith
 
@@ -124,25 +124,25 @@ kind_asked : (h : StaticHead) → (h.kind ≡ 1) ⊎ (h.kind ≡ 3) → list_any
 kind_asked h (inl one) = ap (λ (n : ℕ). list_any (λ k. k == n) (1 ∷ 3 ∷ [])) one
 kind_asked h (inr three) = ap (λ (n : ℕ). list_any (λ k. k == n) (1 ∷ 3 ∷ [])) three
 
-file_length : (h : StaticHead) (f : List ℕ) → length (restored_file h f) ≡ end_of (base_of h.p) (bodies_of (together (restored_records f)))
-file_length h f = length-file_text (restored_head h) (together (restored_records f)) _ (fresh_next (restored_records f))
+file_length : (h : StaticHead) (f : List ℕ) → length (restored_file h f) ≡ end_of (base_of h.p) (bodies_of (together 0 (restored_records f)))
+file_length h f = length-file_text (restored_head h) (together 0 (restored_records f)) _ (fresh_next 0 (restored_records f))
 
 may_open : (image file : List ℕ) (count : ℕ) (writable : Bool) → IsAppending image → length file ≤ 2 ^ 40 → (r : IsRestoredFrom image file count)
-    → MayOpen (1 ∷ 3 ∷ []) writable alone (restored_head r.head) (together (restored_records image)) (fresh_next (restored_records image))
+    → MayOpen (1 ∷ 3 ∷ []) writable alone (restored_head r.head) (together 0 (restored_records image)) (fresh_next 0 (restored_records image))
 may_open image file count writable appending long r =
     let all = restored_records image in
     record {
       head = (statics.found image r.head r.was).0.0;
       generation = omega arith;
       kind = kind_asked r.head (kind_of r.head image r.was appending);
-      legal = together_legal (fresh_next all) all (omega arith) (records_small r.head image r.was);
+      legal = together_legal (fresh_next 0 all) all (omega arith) (records_small r.head image r.was);
       home = λ set. together_home all;
       size = omega (arith, long, ap length r.is, file_length r.head image);
       number = omega (arith, next_small all);
       last = λ t. omega (arith, next_small all);
     }
 
-is_file : (image file : List ℕ) (count : ℕ) → length file ≤ 2 ^ 40 → (r : IsRestoredFrom image file count) → IsFile (restored_head r.head) file (together (restored_records image))
+is_file : (image file : List ℕ) (count : ℕ) → length file ≤ 2 ^ 40 → (r : IsRestoredFrom image file count) → IsFile (restored_head r.head) file (together 0 (restored_records image))
 unfolding file_text
 is_file image file count long r =
     let all = restored_records image in
@@ -152,7 +152,7 @@ is_file image file count long r =
       generation = omega arith;
       legal = together_legal (2 ^ 64) all (omega (arith, next_small all)) (records_small r.head image r.was);
       size = omega (arith, long);
-      closing = record { size = end_of base (bodies_of (together all)); count = length (replay Hash (together all) []); next = fresh_next all };
+      closing = record { size = end_of base (bodies_of (together 0 all)); count = length (replay Hash (together 0 all) []); next = fresh_next 0 all };
       text = r.is;
     }
 
@@ -160,9 +160,9 @@ header_there : (h : StaticHead) (f : List ℕ) → is_static h ≡ true → stat
 unfolding file_text
 header_there h f valid =
     let new = restored_head h in
-    let gs = together (restored_records f) in
+    let gs = together 0 (restored_records f) in
     let blocks = laid (base_of h.p) (bodies_of gs) in
-    let closing : Closing = record { size = end_of (base_of h.p) (bodies_of gs); count = length (replay Hash gs []); next = fresh_next (restored_records f) } in
+    let closing : Closing = record { size = end_of (base_of h.p) (bodies_of gs); count = length (replay Hash gs []); next = fresh_next 0 (restored_records f) } in
     let rest = heads_text h.p blocks ++ texts blocks (links_of h.p [] blocks) in
     ap static_at (append_assoc (static_text new) (closing_text closing) rest) ∙ statics.again new (closing_text closing ++ rest) (valid, omega arith)
 
@@ -172,13 +172,13 @@ leaves_same image file count long r =
     let valid = (statics.found image r.head r.was).0.0 in
     let there : static_at file ≡ Some (restored_head r.head) = ap static_at r.is ∙ header_there r.head image valid in
     sym (records_are (restored_head r.head) file there)
-    ∙ ap (λ (gs : List Group). replay Hash gs []) (reads_back (restored_head r.head) file (together all) (is_file image file count long r))
+    ∙ ap (λ (gs : List Group). replay Hash gs []) (reads_back (restored_head r.head) file (together 0 all) (is_file image file count long r))
     ∙ together_leaves all (records_rising image)
 
 pub restored_open : RestoredOpen
 restored_open image file count appending long r = record {
   opens = λ writable.
       ap (λ (f : List ℕ). first_fault (1 ∷ 3 ∷ []) writable alone f) r.is
-      ∙ opens_closed (1 ∷ 3 ∷ []) writable alone (restored_head r.head) (together (restored_records image)) (fresh_next (restored_records image)) (may_open image file count writable appending long r);
+      ∙ opens_closed (1 ∷ 3 ∷ []) writable alone (restored_head r.head) (together 0 (restored_records image)) (fresh_next 0 (restored_records image)) (may_open image file count writable appending long r);
   records = leaves_same image file count long r;
 }

@@ -24,11 +24,11 @@ restored_head h = record { kind = h.kind; version = h.version; p = h.p; order = 
 
 -- the closed file of the image's records: one group of number 0 with all of them, where there are any
 abbrev pub restored_file : StaticHead → (image : List ℕ) → List ℕ
-restored_file h image = closed_text (restored_head h) (together (restored_records image)) (fresh_next (restored_records image))
+restored_file h image = closed_text (restored_head h) (together 0 (restored_records image)) (fresh_next 0 (restored_records image))
 
 -- its length
 abbrev pub restored_size : StaticHead → (image : List ℕ) → ℕ
-restored_size h image = end_of (base_of h.p) (bodies_of (together (restored_records image)))
+restored_size h image = end_of (base_of h.p) (bodies_of (together 0 (restored_records image)))
 
 -- the file is the one to which the image is restored, and has so many records
 pub record IsRestoredFrom (image file : List ℕ) (count : ℕ) : Type 0 where

@@ -89,7 +89,7 @@ fn slowly(alloc: Global, head: &StaticHead, bytes: &[u8]) -> Result<MemDisk, Fai
         ..*head
     };
     let mut to = disk(alloc, b"", 1_000)?;
-    write_fresh(alloc, &mut to, &head, &records.into_pairs()?)?;
+    write_fresh(alloc, &mut to, &head, 0, &records.into_pairs()?)?;
     Ok(to)
 }
 
