@@ -15,7 +15,7 @@ use Rattle.tk_append.proofs.FreshSteps.{bodies-fresh}
 
 -- whatever the kind is, the blocks are as long
 pub fresh_end : (h : StaticHead) (pairs : List Pair) → fresh_size h 0 pairs ≡ end_of (base_of h.p) (fresh_bodies 0 true pairs)
-fresh_end h pairs = ap (λ (l : List Body). end_of (base_of h.p) l) (bodies-fresh h.kind pairs) ∙ end_of-each (base_of h.p) (eqb h.kind 2) true pairs
+fresh_end h pairs = ap (λ (l : List Body). end_of (base_of h.p) l) (bodies-fresh h.kind 0 pairs) ∙ end_of-each (base_of h.p) 0 0 (eqb h.kind 2) true pairs
 
 pub too_long : (h : StaticHead) (pairs rest : List Pair) (size : ℕ) → end_of size (fresh_bodies 0 true rest) ≡ end_of (base_of h.p) (fresh_bodies 0 true pairs) → 2 ^ 40 < size → false ≡ nat_le (fresh_size h 0 pairs) (2 ^ 40)
 too_long h pairs rest size is past =
