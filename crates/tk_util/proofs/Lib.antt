@@ -3,6 +3,8 @@ pub mod Crashing
 pub mod Endings
 pub mod GetEndings
 pub mod Names
+pub mod OnFile
+pub mod OnFolder
 pub mod Printing
 pub mod Ready
 pub mod Replies

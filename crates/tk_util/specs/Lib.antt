@@ -1,7 +1,9 @@
 pub mod Asked
 pub mod Calls
+pub mod Counts
 pub mod Done
 pub mod Ends
+pub mod Leaves
 pub mod Ran
 pub mod Words
 pub mod World

@@ -107,6 +107,12 @@ file_of (Get c) = c.file
 file_of (Set c) = c.file
 file_of (Remove c) = c.file
 
+-- a command that makes an absent file
+abbrev pub creates : Command → Bool
+creates (Get c) = false
+creates (Set c) = true
+creates (Remove c) = false
+
 -- a command that may write
 abbrev pub writes : Command → Bool
 writes (Get c) = false

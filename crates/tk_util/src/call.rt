@@ -1,10 +1,11 @@
 //! One call on a file.
-ghost use Rattle.std.specs.Prelude.{◌≡◌, ◌⊎◌, ◌-◌, ◌<◌, ◌≤◌, ◌^◌, ◌++◌, ℕ, List, [], length, true, false, Option, IfOk, IfSome, OnOk, OnErr, Some, Err, if◌then◌else◌};
+ghost use Rattle.std.specs.Prelude.{◌≡◌, ◌==◌, ◌⊎◌, ◌-◌, ◌<◌, ◌≤◌, ◌^◌, ◌++◌, ℕ, List, [], length, true, false, Option, IfOk, IfSome, OnOk, OnErr, Some, Err, if◌then◌else◌};
 ghost use Rattle.std.specs.Option.{is_some};
 ghost use Rattle.tk_model.specs.declared.record.Action.TheVariants.{Keep};
 ghost use Rattle.tk_model.specs.declared.record.Group.{Group};
 ghost use Rattle.tk_disk.specs.Crash.{Only};
 ghost use Rattle.tk_disk.specs.Disk.{Rose};
+ghost use Rattle.tk_util.specs.Counts.{HasCause};
 ghost use Rattle.tk_append.specs.Log.{closed_text};
 ghost use Rattle.tk_store.specs.Store.{IsWhole, LeavesSafe};
 ghost use Rattle.tk_util.specs.declared.call.Stop.{Stop as Stopped};
@@ -38,6 +39,25 @@ pub(crate) enum Stop {
 pub(crate) struct Called<D> {
     pub disk: D,
     pub answer: Result<Status, Stop>,
+}
+
+impl<D: Disk> Called<D> {
+    ghost use Rattle.tk_util.specs.Done.{counted_answer, CallCounts};
+
+    /// What a call that stopped short answers where its disk counted a fault: that fault.
+    pub(crate) fn counted(self, before: u64) -> Called<D>
+        requires { HasCause Stop.Fault before (D.fault_count self.disk) self.answer }
+        ensures disk { result.disk ≡ self.disk }
+        ensures answer { result.answer ≡ counted_answer (D.fault_count self.disk == before) self.answer }
+        ensures counts { CallCounts before (D.fault_count result.disk) result.answer }
+    {
+        let Called { disk, answer } = self;
+        let answer = match answer {
+            Err(Stop::Full | Stop::NoMemory) if disk.faults() != before => Err(Stop::Fault),
+            answer => answer,
+        };
+        Called { disk, answer }
+    }
 }
 
 /// Why a call on a file that was not opened was not made.
@@ -106,9 +126,7 @@ fn call_on<D: Disk, P: RecordProcessor>(
     ensures nature { hash_nature store.new ≡ hash_nature store.old }
     ensures told { is_some (hash_shown D.image store.new).map ≡ is_some (hash_shown D.image store.old).map }
     ensures time { D.moment (hash_disk store.old) ≤ D.moment (hash_disk store.new) }
-    ensures kept { OnOk result (D.fault_count (hash_disk store.new) ≡ D.fault_count (hash_disk store.old)) }
-    ensures later { D.fault_count (hash_disk store.old) ≤ D.fault_count (hash_disk store.new) }
-    ensures fault { result ≡ Err Stop.Fault → Rose (D.fault_count (hash_disk store.old)) (D.fault_count (hash_disk store.new)) }
+    ensures cause { HasCause Stop.Fault (D.fault_count (hash_disk store.old)) (D.fault_count (hash_disk store.new)) result }
 {
     let next = store.next_number();
     match run_on(alloc, store, next, key, p) {
@@ -145,9 +163,7 @@ pub(crate) fn run_call<D: Disk, P: RecordProcessor>(
     ensures spared { writable ≡ true → IfSome (D.image disk) (λ f. Spares f (D.may_leave disk) (D.may_leave result.disk)) }
     ensures crash { writable ≡ true → CrashDone result.answer (D.may_leave disk) (D.may_leave result.disk) (D.image result.disk) }
     ensures reads { writable ≡ false → IsStill (D.image disk) (D.image result.disk) (D.may_leave disk) (D.may_leave result.disk) }
-    ensures kept { OnOk result.answer (D.fault_count result.disk ≡ D.fault_count disk) }
-    ensures later { D.fault_count disk ≤ D.fault_count result.disk }
-    ensures fault { result.answer ≡ Err Stop.Fault → Rose (D.fault_count disk) (D.fault_count result.disk) }
+    ensures cause { HasCause Stop.Fault (D.fault_count disk) (D.fault_count result.disk) result.answer }
 {
     let alone = ShardOf { index: 0, of: 1 };
     let mut store = match HashStore::open_file(alloc, disk, writable, LIMIT, alone) {

@@ -3,6 +3,7 @@
 
 mod call;
 mod end;
+mod file;
 mod key;
 mod run;
 mod set;

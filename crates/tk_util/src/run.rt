@@ -3,12 +3,12 @@ ghost use Rattle.tk_disk.specs.Crash.{Within, Only};
 ghost use Rattle.tk_disk.specs.Disk.{Rose};
 ghost use Rattle.tk_disk.specs.Folder.{NoneOut, or_empty};
 ghost use Rattle.tk_util.specs.Calls.{Spares};
+ghost use Rattle.tk_util.specs.Leaves.{OthersWithin};
 ghost use Rattle.tk_util.specs.Words.{Command, command_of, words_of};
 ghost use Rattle.tk_util.specs.Ran.{Ran, Settled, file_of, writes, IsRunStatus, IsEnd};
 
-use crate::key::{run_get, run_remove};
-use crate::set::run_set;
-use crate::words::{Asked, read_words};
+use crate::file::run_on_file;
+use crate::words::read_words;
 use std::alloc::Global;
 use tk_disk::Folder;
 use tk_io::{Sink, Source};
@@ -36,6 +36,7 @@ pub fn run_util<F: Folder, R: Source, W: Sink>(
         → Within (F.leaves folder.old (file_of c)) (F.leaves folder.new (file_of c)) }
     ensures durable { (c : Command) → command_of (words_of words.now) ≡ Some c → writes c ≡ true → (result.status ≡ 0) ⊎ (result.status ≡ 6) → F.tells folder.old ≡ true
         → IfSome (F.file folder.new (file_of c)) (λ f. Only f (F.leaves folder.new (file_of c))) }
+    ensures others { (c : Command) → command_of (words_of words.now) ≡ Some c → OthersWithin (file_of c) (F.leaves folder.old) (F.leaves folder.new) }
     ensures left { R.left source.new ≡ R.left source.old }
     ensures fields { IsEnd result }
     ensures status { (c : Command) → command_of (words_of words.now) ≡ Some c → IsRunStatus result.status }
@@ -44,14 +45,13 @@ pub fn run_util<F: Folder, R: Source, W: Sink>(
     ensures fault { result.status ≡ 4 → Rose (F.fault_count folder.old) (F.fault_count folder.new)
         ⊎ (((name : List ℕ) × Rose (F.disk_faults folder.old name) (F.disk_faults folder.new name)) ⊎ Rose (W.fault_count out.old) (W.fault_count out.new)) }
     ensures met { result.status ≢ 3 → result.status ≢ 4 → F.fault_count folder.new ≡ F.fault_count folder.old }
+    ensures disks_met { result.status ≢ 3 → result.status ≢ 4 → (name : List ℕ) → F.disk_faults folder.new name ≡ F.disk_faults folder.old name }
     ensures tells { F.tells folder.new ≡ F.tells folder.old }
     ensures closed { NoneOut (F.is_out folder.new) }
 {
     let _ = source;
     match read_words(words) {
         None => Finish::with(1),
-        Some(Asked::Get(get)) => run_get(alloc, get, folder, out),
-        Some(Asked::Set(set)) => run_set(alloc, set, folder),
-        Some(Asked::Remove(remove)) => run_remove(alloc, remove, folder),
+        Some(command) => run_on_file(alloc, command, folder, out),
     }
 }

@@ -1,5 +1,5 @@
 use crate::tests::words;
-use crate::words::{Asked, KeyOperands, SetOperands, read_words};
+use crate::words::{FileCommand, KeyOperands, SetOperands, read_words};
 use std::test::Fail;
 
 #[test]
@@ -9,7 +9,7 @@ fn get_has_a_file_and_a_key(rt: HostRuntime) -> Result<(), Fail> {
         file: "x.tkh",
         key: b"a",
     };
-    assert_eq!(rt; read_words(&get), Some(Asked::Get(operands)));
+    assert_eq!(rt; read_words(&get), Some(FileCommand::Get(operands)));
     Ok(())
 }
 
@@ -21,7 +21,7 @@ fn set_has_a_value_too(rt: HostRuntime) -> Result<(), Fail> {
         key: b"a",
         value: b"1",
     };
-    assert_eq!(rt; read_words(&set), Some(Asked::Set(operands)));
+    assert_eq!(rt; read_words(&set), Some(FileCommand::Set(operands)));
     Ok(())
 }
 
@@ -32,7 +32,7 @@ fn remove_has_a_file_and_a_key(rt: HostRuntime) -> Result<(), Fail> {
         file: "x.tkh",
         key: b"a",
     };
-    assert_eq!(rt; read_words(&remove), Some(Asked::Remove(operands)));
+    assert_eq!(rt; read_words(&remove), Some(FileCommand::Remove(operands)));
     Ok(())
 }
 
@@ -43,7 +43,7 @@ fn a_key_behind_the_end_of_options(rt: HostRuntime) -> Result<(), Fail> {
         file: "x.tkh",
         key: b"-k",
     };
-    assert_eq!(rt; read_words(&get), Some(Asked::Get(operands)));
+    assert_eq!(rt; read_words(&get), Some(FileCommand::Get(operands)));
     Ok(())
 }
 

@@ -1,6 +1,6 @@
 ghost use Rattle.std.specs.Prelude.{◌≡◌, ◌≢◌, [], ◌∷◌, ◌≤◌, ◌<◌, ◌^◌, length, MatchOption, IfSome, Some, None};
 ghost use Rattle.tk_util.specs.Words.{command_of, words_of, operands, key_words, set_words, is_option, is_hash_name, is_key, is_value};
-ghost use Rattle.tk_util.specs.Asked.{said, key_said, set_said, all_of, IsWithin};
+ghost use Rattle.tk_util.specs.Asked.{said, key_said, set_said, all_of, IsWithinLimits};
 
 /// A file and a key in it.
 #[derive(Clone, Copy, Debug, PartialEq, Eq)]
@@ -17,12 +17,36 @@ pub(crate) struct SetOperands<'a> {
     pub value: &'a [u8],
 }
 
-/// A command and its operands.
+/// A command on one file, with its operands.
 #[derive(Clone, Copy, Debug, PartialEq, Eq)]
-pub(crate) enum Asked<'a> {
+pub(crate) enum FileCommand<'a> {
     Get(KeyOperands<'a>),
     Set(SetOperands<'a>),
     Remove(KeyOperands<'a>),
+}
+
+impl<'a> FileCommand<'a> {
+    ghost use Rattle.std.specs.Prelude.{◌≡◌};
+    ghost use Rattle.tk_util.specs.Asked.{said};
+    ghost use Rattle.tk_util.specs.Ran.{file_of, creates};
+
+    /// The name of the command's file.
+    pub(crate) fn file(self) -> &'a str
+        ensures { result.now ≡ file_of (said self.entry) }
+    {
+        match self {
+            FileCommand::Get(get) => get.file,
+            FileCommand::Set(set) => set.file,
+            FileCommand::Remove(remove) => remove.file,
+        }
+    }
+
+    /// Whether the command makes an absent file.
+    pub(crate) fn creates(self) -> bool
+        ensures { result ≡ creates (said self.entry) }
+    {
+        matches!(self, FileCommand::Set(_))
+    }
 }
 
 /// The words before `--` and those behind it.
@@ -139,16 +163,16 @@ fn set_operands(operands: Operands<'_>) -> Option<SetOperands<'_>>
 }
 
 /// Reads the words of a command.
-pub(crate) fn read_words(words: &[String]) -> Option<Asked<'_>>
-    ensures fits { IfSome result IsWithin }
+pub(crate) fn read_words(words: &[String]) -> Option<FileCommand<'_>>
+    ensures fits { IfSome result IsWithinLimits }
     ensures read { MatchOption result (command_of (words_of words.now) ≡ None) (λ a. command_of (words_of words.now) ≡ Some (said a)) }
 {
     let (command, words) = words.split_first()?;
     let operands = operands_of(words)?;
     match command.as_str() {
-        "get" => Some(Asked::Get(key_operands(operands)?)),
-        "set" => Some(Asked::Set(set_operands(operands)?)),
-        "remove" => Some(Asked::Remove(key_operands(operands)?)),
+        "get" => Some(FileCommand::Get(key_operands(operands)?)),
+        "set" => Some(FileCommand::Set(set_operands(operands)?)),
+        "remove" => Some(FileCommand::Remove(key_operands(operands)?)),
         _ => None,
     }
 }
