@@ -74,6 +74,7 @@ pub fn open_log<D: Disk>(
     };
     let CountedLog {
         mut log,
+        heads: _,
         count: _,
         next: _,
     } = read;
@@ -101,6 +102,6 @@ pub fn check_all<D: Disk>(
     ensures cause { HasOpenCause (D.fault_count disk.old) (D.fault_count disk.new) result }
     ensures still { OnlyReads D.may_leave D.moment D.left_since disk.old disk.new }
 {
-    let found = check_disk(alloc, disk, &[1, 3], writable, shard)?;
-    Ok(found.head)
+    let checked = check_disk(alloc, disk, &[1, 3], writable, shard)?;
+    Ok(checked.found.head)
 }

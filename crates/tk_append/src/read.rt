@@ -8,16 +8,17 @@ ghost use Rattle.tk_append.specs.Log.{Tells};
 ghost use Rattle.tk_append.specs.LogParts.{log_disk, log_head};
 ghost use Rattle.tk_append.specs.Counted.{HasCounted};
 
-use crate::check::check_disk;
+use crate::check::{FoundHeads, check_disk};
 use crate::log::GroupLog;
 use std::alloc::Global;
 use tk_disk::Disk;
 use tk_model::{ShardOf, Unopened};
 
-/// The log of a file that was read, with the number of its records and its next number.
+/// The log of a file that was read, with the newest block of each bucket, the number of its records and its next number.
 #[derive(Drop)]
 pub struct CountedLog<D: Disk> {
     pub log: GroupLog<D>,
+    pub heads: Vec<u64>,
     pub count: u64,
     pub next: u64,
 }
@@ -45,8 +46,9 @@ pub fn read_counted<D: Disk>(
 {
     let mut disk = disk;
     match check_disk(alloc, &mut disk, kinds, writable, shard) {
-        Ok(found) => Ok(CountedLog {
+        Ok(FoundHeads { found, heads }) => Ok(CountedLog {
             log: GroupLog::of(alloc, disk, found.head, found.closing.size),
+            heads,
             count: found.closing.count,
             next: found.closing.next,
         }),

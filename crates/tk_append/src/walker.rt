@@ -274,6 +274,20 @@ impl Walker {
         Ok(found.extent)
     }
 
+    /// Gives the heads away.
+    pub fn into_heads(self) -> Vec<u64>
+        ensures { result ≡ self.heads }
+    {
+        let Walker {
+            heads,
+            cleared: _,
+            keys: _,
+            before: _,
+            open_group: _,
+        } = self;
+        heads
+    }
+
     /// Makes 0 of the heads in front of the last clear.
     pub fn settle(&mut self)
         ensures heads { (p place : ℕ) (blocks : List Placed) → NewestIn p place self.old.heads.items self.old.cleared blocks → HeadsAre p self.new.heads.items blocks }

@@ -2,7 +2,7 @@
 use Rattle.std.proofs.Common.{◌≡◌, inl, inr, ℕ, ◌+◌, ◌*◌, ◌<◌, ◌≤◌, ◌^◌, Bool, true, false, List, [], ◌∷◌, ◌++◌, length, take, refl, sym, ◌∙◌, ap, subst, arith, length-append, append_assoc}
 use Rattle.std.specs.Prelude.{◌≢◌, Option, Some, None, IfSome, MatchOption, Result, Ok, Err, OnOk, OnErr, if◌then◌else◌, sum_by}
 use Rattle.std.specs.Option.{option_map, is_some}
-use Rattle.std.proofs.lemmas.List.{append-nil, take_all, take-append-le}
+use Rattle.std.proofs.lemmas.List.{append-nil, take_all, take-append-le, length-replicate}
 use Rattle.std.proofs.lemmas.Option.{IfSome_then}
 use Rattle.std.proofs.lemmas.Bool.Decides.{nat_tests}
 use Rattle.tk_disk.specs.Crash.{Torn, Follows, Within, Only, LeavesOnly}
@@ -22,7 +22,8 @@ use Rattle.tk_block.specs.Text.{base_of, is_static}
 use Rattle.tk_block.specs.Blocks.{group_bodies}
 use Rattle.tk_block.specs.Layout.{end_of, bodies_of, group_text}
 use Rattle.tk_block.proofs.Groups.{end_behind}
-use Rattle.tk_append.specs.Log.{AreGroups, closed_text}
+use Rattle.tk_append.specs.Chains.{HeadsAre}
+use Rattle.tk_append.specs.Log.{AreGroups, blocks_of, closed_text}
 use Rattle.tk_append.specs.LogParts.{log_disk, log_head, log_end, with_closing}
 use Rattle.tk_append.specs.FileText.{text_of, text_with, IsFile}
 use Rattle.tk_append.specs.Restored.{IsKept}
@@ -33,12 +34,14 @@ use Rattle.tk_hash.specs.HashLaws.{groups_joined, length-text_of, is_file, all_l
 use Rattle.tk_hash.specs.declared.store.HashStore.{HashStore}
 use Rattle.tk_hash.specs.declared.store.Staged.{Staged}
 use Rattle.tk_hash.specs.declared.plan.NewHeads.{NewHeads}
+use Rattle.tk_hash.specs.declared.plan.NewHeads.TheVariants.{Cleared, Renewed}
+use Rattle.tk_hash.proofs.GroupChained.{length-with_new}
 use Rattle.tk_hash.specs.Plan.{with_heads}
 use Rattle.tk_hash.specs.declared.shelf.Shelf.{Shelf}
-use Rattle.tk_hash.specs.Seek.{IsShelf}
+use Rattle.tk_hash.specs.Seek.{KnowsHeads, IsShelf}
 use Rattle.tk_hash.proofs.Keeping.{front_ends, keeps_torn, keeps_joined}
-use Rattle.tk_hash.proofs.HashKeeps.{SameFile, KeepsShelf, carried, rested, shelf_same, done, map_is}
-use Rattle.tk_hash.proofs.HashTexts.{PutsHeads, file_more, closed_there, closed_now, closed_still}
+use Rattle.tk_hash.proofs.HashKeeps.{SameFile, KeepsShelf, carried, rested, shelf_same, heads_known, heads_stand, done, map_is}
+use Rattle.tk_hash.proofs.HashTexts.{PutsHeads, file_more, heads_behind, closed_there, closed_now, closed_still}
 
 -- a header's p
 pub head_small : (h : StaticHead) → is_static h ≡ true → h.p ≤ 24
@@ -49,6 +52,15 @@ count_more None None P A B told file was go = tt
 count_more None (Some g) P A B told file was go = absurd (cc)
 count_more (Some f) None P A B told file was go = tt
 count_more (Some f) (Some g) P A B told file was go = go file was
+
+always_there : (o : Option (List ℕ)) → IfSome o (λ f. Unit {0})
+always_there None = tt
+always_there (Some f) = tt
+
+-- new heads are as many
+pub length-with_heads : (fresh : NewHeads) (heads : List ℕ) → length (with_heads fresh heads) ≡ length heads
+length-with_heads Cleared heads = length-replicate (length heads) 0
+length-with_heads (Renewed ns) heads = length-with_new ns.items heads
 
 pub shelf_none : (o : Option (List ℕ)) (h : StaticHead) (groups : List Group) (shelf : Option Shelf) → shelf ≡ None → IfSome o (λ f. IsShelf h groups shelf)
 shelf_none None h groups shelf is = tt
@@ -159,7 +171,7 @@ module _ {D : Type 0} (image : D → Option (List ℕ)) (may_leave : D → List 
     -- what waits, and that close was called, is no part of what a store stands for
     pub restaged : (o : Option Staged) (b : Bool) → (b ≡ false → s.closed ≡ false) → HashStands image may_leave (record s { staged = o; closed = b }) first since hard
     restaged o b unclosed = rested image may_leave s (record s { staged = o; closed = b }) first since hard hard st
-        (record { head = refl; end = refl; closing = refl; count = refl; next = refl; last = refl; writable = refl; closed = unclosed; buffer = refl; bytes = refl }) (shelf_same image s) st.synced st.kept
+        (record { head = refl; end = refl; closing = refl; count = refl; next = refl; last = refl; writable = refl; closed = unclosed; heads = refl; buffer = refl; bytes = refl }) (shelf_same image s) st.synced st.kept
 
     -- where its groups end
     pub groups_end : log_end s.log ≡ end_of (base_of (log_head s.log).p) (bodies_of (groups_held first.held ++ since))
@@ -240,12 +252,12 @@ module _ {D : Type 0} (image : D → Option (List ℕ)) (may_leave : D → List 
   -- the store after a group
   pub grown : (moment : D → ℕ) (left_since : D → ℕ → List ℕ → Type 0) (s t : HashStore D) (g : Staged) (n : ℕ) (cs : List Change) (mid : Option (List ℕ)) (first : First) (since : List Group) (hard : ℕ)
       → (is : IsStaged image s cs g) → AllFit cs → IsClearAlone cs → s.writable ≡ true → floor_of s.next s.last ≤ n → n < 2 ^ 64 → HashStands image may_leave s first since hard
-      → log_head t.log ≡ log_head s.log → log_end t.log ≡ end_of (log_end s.log) (group_bodies n cs) → t.count ≡ g.count → t.last ≡ Some n → t.next ≡ s.next → t.writable ≡ s.writable → t.closing ≡ s.closing → t.closed ≡ s.closed → t.buffer.items ≡ s.buffer.items → t.shelf ≡ None
+      → log_head t.log ≡ log_head s.log → log_end t.log ≡ end_of (log_end s.log) (group_bodies n cs) → t.count ≡ g.count → t.last ≡ Some n → t.next ≡ s.next → t.writable ≡ s.writable → t.closing ≡ s.closing → t.closed ≡ s.closed → t.heads.items ≡ with_heads g.heads s.heads.items → t.buffer.items ≡ s.buffer.items → t.shelf ≡ None
       → is_some (image (log_disk t.log)) ≡ is_some (image (log_disk s.log)) → mid ≡ option_map (λ f. f ++ group_text (record { number = n; changes = cs }) (log_end s.log) is.links) (image (log_disk s.log))
       → PutsHeads mid (image (log_disk t.log)) (log_head s.log) g.heads
       → KeepsGroups may_leave moment left_since (log_head s.log) (groups_held first.held ++ take hard since) (log_disk s.log) (log_disk t.log)
       → HashStands image may_leave t first (since ++ record { number = n; changes = cs } ∷ []) hard
-  grown moment left_since s t g n cs mid first since hard is fits alone may above small st head end count last next writable closing closed buffer shelf told appended puts keeps =
+  grown moment left_since s t g n cs mid first since hard is fits alone may above small st head end count last next writable closing closed heads buffer shelf told appended puts keeps =
       let more : Group = record { number = n; changes = cs } in
       let h : StaticHead = log_head s.log in
       let o : Option (List ℕ) = image (log_disk s.log) in
@@ -256,7 +268,13 @@ module _ {D : Type 0} (image : D → Option (List ℕ)) (may_leave : D → List 
       let counts : IfSome (image (log_disk t.log)) (λ f. g.count ≡ length (after Hash cs (replay Hash all []))) = count_more o (image (log_disk t.log)) _ _ _ told file st.count (is.count_is all) in
       let ends : end_of (log_end s.log) (group_bodies n cs) ≡ end_of (base_of h.p) (bodies_of (all ++ more ∷ [])) = ap (λ (k : ℕ). end_of k (group_bodies n cs)) st.end_is ∙ sym (end_more (base_of h.p) all more) in
       let texts : IfSome (image (log_disk t.log)) (λ f. f ≡ text_of h s.closing (all ++ more ∷ [])) =
-      file_more o mid (image (log_disk t.log)) h s.closing all more (log_end s.log) is.links g.heads st.end_is told appended file st.there (is.links_are n all) (λ heads. is.heads_are n all heads) puts in
+      file_more o mid (image (log_disk t.log)) h s.closing all more (log_end s.log) is.links s.heads.items g.heads st.end_is told appended file st.there (is.links_are n all) (heads_stand image may_leave s first since hard st) (is.heads_are n all) puts in
+      let legal : AreGroups 0 (n + 1) (all ++ more ∷ []) =
+      groups_joined 0 (floor_of s.next s.last) (n + 1) all (more ∷ []) (all_legal image may_leave s first since hard st) (above, is.some, fits, alone, omega arith) in
+      let grown_file : IfSome (image (log_disk t.log)) (λ f. IsFile h f (all ++ more ∷ [])) =
+      IfSome_then (image (log_disk t.log)) texts (λ f there. file_of h s.closing (all ++ more ∷ []) (n + 1) (end_of (log_end s.log) (group_bodies n cs)) f st.header st.generation legal (omega (arith, small)) ends (omega (arith, is.ends n)) there) in
+      let newest : IfSome (image (log_disk t.log)) (λ f. HeadsAre h.p (with_heads g.heads s.heads.items) (blocks_of h (all ++ more ∷ []))) =
+      count_more o (image (log_disk t.log)) (λ f. IsFile h f all) Unit _ told file (always_there o) (IfSome_then o (is.heads_are n all) (λ f are is_file _. heads_behind h all more (log_end s.log) (with_heads g.heads s.heads.items) st.end_is (are is_file))) in
       let kept : IfSome (image (log_disk t.log)) (λ f. (c : List ℕ) → may_leave (log_disk t.log) c → IsKept h (groups_held first.held ++ take hard since) c) =
       carried o (image (log_disk t.log)) told (kept_held image may_leave s first since hard st may) keeps.now in
       record {
@@ -274,6 +292,9 @@ module _ {D : Type 0} (image : D → Option (List ℕ)) (may_leave : D → List 
         end_is = end ∙ ends ∙ ap (λ (l : List Group). end_of (base_of h.p) (bodies_of l)) joined ∙ ap (λ (k : StaticHead). end_of (base_of k.p) (bodies_of (st.groups ++ (since ++ more ∷ [])))) (sym head);
         end_fits = omega (arith, end, is.ends n);
         buffer = subst (λ (l : List ℕ). 131072 ≤ length l) (sym buffer) st.buffer;
+        heads = subst (λ (k : StaticHead). KnowsHeads (image (log_disk t.log)) k t.heads.items) (sym head)
+            (subst (KnowsHeads (image (log_disk t.log)) h) (sym heads)
+            (heads_known (image (log_disk t.log)) h (with_heads g.heads s.heads.items) (all ++ more ∷ []) (length-with_heads g.heads s.heads.items ∙ st.heads.whole) grown_file newest));
         mark = λ _ unclosed. closing ∙ st.mark may (sym closed ∙ unclosed);
         no_group = λ no. absurd (cc (no, writable, may));
         there = subst (λ (k : StaticHead). IfSome (image (log_disk t.log)) (λ f. f ≡ text_of k t.closing (st.groups ++ (since ++ more ∷ [])))) (sym head)
@@ -300,9 +321,9 @@ module _ {D : Type 0} (image : D → Option (List ℕ)) (may_leave : D → List 
 
   -- the store after another closing part
   pub marked : (s t : HashStore D) (new : Closing) (first : First) (since : List Group) (hard : ℕ) → s.writable ≡ true → HashStands image may_leave s first since hard → log_head t.log ≡ log_head s.log → log_end t.log ≡ log_end s.log → t.closing ≡ new
-      → t.count ≡ s.count → t.next ≡ s.next → t.last ≡ s.last → t.writable ≡ s.writable → t.buffer.items ≡ s.buffer.items → t.shelf ≡ s.shelf → t.closed ≡ true
+      → t.count ≡ s.count → t.next ≡ s.next → t.last ≡ s.last → t.writable ≡ s.writable → t.heads.items ≡ s.heads.items → t.buffer.items ≡ s.buffer.items → t.shelf ≡ s.shelf → t.closed ≡ true
       → image (log_disk t.log) ≡ option_map (with_closing new) (image (log_disk s.log)) → IfSome (image (log_disk t.log)) (λ f. Only f (may_leave (log_disk t.log))) → HashStands image may_leave t first since (length since)
-  marked s t new first since hard may st head end closing count next last writable buffer shelf closed written only =
+  marked s t new first since hard may st head end closing count next last writable heads buffer shelf closed written only =
       let h : StaticHead = log_head s.log in
       let o : Option (List ℕ) = image (log_disk s.log) in
       let all : List Group = st.groups ++ since in
@@ -324,6 +345,8 @@ module _ {D : Type 0} (image : D → Option (List ℕ)) (may_leave : D → List 
         end_is = rw (end, head) st.end_is;
         end_fits = rw end st.end_fits;
         buffer = rw buffer st.buffer;
+        heads = rw (head, heads)
+            (heads_known (image (log_disk t.log)) h s.heads.items all st.heads.whole file (carried o (image (log_disk t.log)) told (heads_stand image may_leave s first since hard st) (λ are. are)));
         mark = λ _ unclosed. absurd (cc (closed, unclosed));
         no_group = rw writable st.no_group;
         there = rw (head, closing) texts;

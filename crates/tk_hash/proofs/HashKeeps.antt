@@ -1,8 +1,9 @@
 -- A hash store that stands for groups goes on to stand for them.
-use Rattle.std.proofs.Common.{◌≡◌, inl, inr, ℕ, ◌≤◌, Bool, true, false, List, [], ◌++◌, length, take, refl, sym, ◌∙◌, ap, subst, arith}
+use Rattle.std.proofs.Common.{◌≡◌, inl, inr, ℕ, ◌≤◌, ◌^◌, Bool, true, false, List, [], ◌++◌, length, take, refl, sym, ◌∙◌, ap, subst, arith}
 use Rattle.std.specs.Prelude.{Option, Some, None, IfSome, Result, Ok, Err, OnOk, OnErr, if◌then◌else◌}
 use Rattle.std.specs.Option.{option_map, is_some}
 use Rattle.std.proofs.lemmas.Option.{IfSome_then}
+use Rattle.std.proofs.lemmas.List.{take_at}
 use Rattle.std.specs.Vec.{with_items}
 use Rattle.std.specs.declared.vec.Vec.{Vec}
 use Rattle.tk_disk.specs.Crash.{Within, OnlyReads}
@@ -14,11 +15,13 @@ use Rattle.tk_store.specs.declared.error.StoreError.{StoreError}
 use Rattle.tk_store.specs.declared.error.StoreError.TheVariants as errors
 use Rattle.tk_store.specs.Store.{First, IsWhole}
 use Rattle.tk_block.specs.declared.head.StaticHead.{StaticHead}
+use Rattle.tk_append.specs.Chains.{HeadsAre}
+use Rattle.tk_append.specs.Log.{blocks_of}
 use Rattle.tk_append.specs.LogParts.{log_disk, log_head, log_end}
 use Rattle.tk_append.specs.FileText.{IsFile}
 use Rattle.tk_append.specs.Restored.{groups_in, IsKept}
 use Rattle.tk_append.proofs.Restoring.{reads_back}
-use Rattle.tk_hash.specs.Seek.{IsShelf}
+use Rattle.tk_hash.specs.Seek.{KnowsHeads, IsShelf}
 use Rattle.tk_hash.specs.Hash.{groups_held, KeepsGroups, map_in, HashStands, HashSafe, HashStood}
 use Rattle.tk_hash.specs.HashLaws.{mapped, is_file, kept_held, records_are, kept_front, kept_each, hash_safe_less}
 use Rattle.tk_hash.specs.declared.store.HashStore.{HashStore}
@@ -57,13 +60,14 @@ pub record SameFile {D : Type 0} (image : D → Option (List ℕ)) (s t : HashSt
   pub last : t.last ≡ s.last
   pub writable : t.writable ≡ s.writable
   pub closed : t.closed ≡ false → s.closed ≡ false
+  pub heads : t.heads.items ≡ s.heads.items
   pub buffer : length t.buffer.items ≡ length s.buffer.items
   pub bytes : image (log_disk t.log) ≡ image (log_disk s.log)
 
 -- a store whose disk was lent and read
 pub same_read : {D : Type 0} (image : D → Option (List ℕ)) (s t : HashStore D) (lent : D) → lent ≡ log_disk s.log → (t.closed ≡ false → s.closed ≡ false) → log_head t.log ≡ log_head s.log → log_end t.log ≡ log_end s.log → t.closing ≡ s.closing → t.count ≡ s.count → t.next ≡ s.next → t.last ≡ s.last
-    → t.writable ≡ s.writable → length t.buffer.items ≡ length s.buffer.items → image (log_disk t.log) ≡ image lent → SameFile image s t
-same_read image s t lent at closed head end closing count next last writable buffer bytes = record {
+    → t.writable ≡ s.writable → t.heads.items ≡ s.heads.items → length t.buffer.items ≡ length s.buffer.items → image (log_disk t.log) ≡ image lent → SameFile image s t
+same_read image s t lent at closed head end closing count next last writable heads buffer bytes = record {
   head = head;
   end = end;
   closing = closing;
@@ -72,6 +76,7 @@ same_read image s t lent at closed head end closing count next last writable buf
   last = last;
   writable = writable;
   closed = closed;
+  heads = heads;
   buffer = buffer;
   bytes = bytes ∙ ap image at;
 }
@@ -91,6 +96,10 @@ shelf_same image s groups = shelf_always (image (log_disk s.log)) (λ f. IsFile 
 pub length-lent : {X Z : Type 0} (v : Vec X Z) (ws : List X) → length (with_items v ws).items ≡ length v.items
 length-lent v ws = sym (with_items v ws).ok.0 ∙ v.ok.0
 
+-- and has the items of the slice
+pub items-lent : {X Z : Type 0} (v : Vec X Z) (ws : List X) → length ws ≡ length v.items → (with_items v ws).items ≡ ws
+items-lent v ws long = take_at ws _ v.len (long ∙ sym v.ok.0)
+
 shelf_given : (o : Option (List ℕ)) (P : List ℕ → Type 0) (Q R : Type 0) → IfSome o (λ f. P f → Q → R) → IfSome o (λ f. Q) → IfSome o (λ f. P f → R)
 shelf_given None P Q R go was = tt
 shelf_given (Some f) P Q R go was = λ file. go file was
@@ -106,6 +115,20 @@ mapped_same (Some x) g y is = ap Some is
 told_file : (o : Option (List ℕ)) (h : StaticHead) (groups : List Group) (P : List Group → Type 0) → IfSome o (λ f. IsFile h f groups) → IfSome o (λ f. IsFile h f groups → P groups) → IfSome o (λ f. P (groups_in h f))
 told_file None h groups P file told = tt
 told_file (Some f) h groups P file told = subst P (sym (reads_back h f groups file)) (told file)
+
+-- the heads of the groups of a file
+pub heads_in : (o : Option (List ℕ)) (h : StaticHead) (heads : List ℕ) (groups : List Group) → KnowsHeads o h heads → IfSome o (λ f. IsFile h f groups → HeadsAre h.p heads (blocks_of h groups))
+heads_in None h heads groups know = tt
+heads_in (Some f) h heads groups know = λ file. subst (λ (gs : List Group). HeadsAre h.p heads (blocks_of h gs)) (reads_back h f groups file) know.newest
+
+heads_there : (o : Option (List ℕ)) (h : StaticHead) (heads : List ℕ) (groups : List Group) → KnowsHeads o h heads → IfSome o (λ f. IsFile h f groups) → IfSome o (λ f. HeadsAre h.p heads (blocks_of h groups))
+heads_there None h heads groups know file = tt
+heads_there (Some f) h heads groups know file = heads_in (Some f) h heads groups know file
+
+-- and back
+pub heads_known : (o : Option (List ℕ)) (h : StaticHead) (heads : List ℕ) (groups : List Group) → length heads ≡ 2 ^ h.p → IfSome o (λ f. IsFile h f groups) → IfSome o (λ f. HeadsAre h.p heads (blocks_of h groups)) → KnowsHeads o h heads
+heads_known None h heads groups whole file are = record { whole = whole; newest = tt }
+heads_known (Some f) h heads groups whole file are = record { whole = whole; newest = subst (λ (gs : List Group). HeadsAre h.p heads (blocks_of h gs)) (sym (reads_back h f groups file)) are }
 
 module _ {D : Type 0} (image : D → Option (List ℕ)) (may_leave : D → List ℕ → Type 0) where
   -- another hard number, and another disk that tells the same
@@ -125,6 +148,7 @@ module _ {D : Type 0} (image : D → Option (List ℕ)) (may_leave : D → List 
     end_is = rw (same.end, same.head) st.end_is;
     end_fits = rw same.end st.end_fits;
     buffer = rw same.buffer st.buffer;
+    heads = rw (same.bytes, same.head, same.heads) st.heads;
     mark = λ may unclosed. same.closing ∙ st.mark (sym same.writable ∙ may) (same.closed unclosed);
     no_group = rw same.writable st.no_group;
     there = rw (same.bytes, same.head, same.closing) st.there;
@@ -133,6 +157,15 @@ module _ {D : Type 0} (image : D → Option (List ℕ)) (may_leave : D → List 
     shelf = rw (same.bytes, same.head) (shelf_on (image (log_disk s.log)) (λ f. IsFile (log_head s.log) f (st.groups ++ since)) _ _ (is_file image may_leave s first since hard st) (shelf (st.groups ++ since)) st.shelf);
     kept = rw (same.writable, same.bytes, same.head) kept;
   }
+
+  -- the heads in memory are those of its groups
+  pub heads_stand : (s : HashStore D) (first : First) (since : List Group) (hard : ℕ) (st : HashStands image may_leave s first since hard)
+      → IfSome (image (log_disk s.log)) (λ f. HeadsAre (log_head s.log).p s.heads.items (blocks_of (log_head s.log) (st.groups ++ since)))
+  heads_stand s first since hard st = heads_there (image (log_disk s.log)) (log_head s.log) s.heads.items (st.groups ++ since) st.heads (is_file image may_leave s first since hard st)
+
+  -- and those of a disk that was lent
+  pub heads_at : (s : HashStore D) (lent : D) (h : StaticHead) (heads : List ℕ) → IsWhole (HashStands image may_leave) s → lent ≡ log_disk s.log → h ≡ log_head s.log → heads ≡ s.heads.items → KnowsHeads (image lent) h heads
+  heads_at s lent h heads w at head same = rw (at, head, same) w.3.heads
 
   -- a reading
   pub read_on : (s t : HashStore D) (first : First) (since : List Group) (hard : ℕ) → SameFile image s t → KeepsShelf image s t.shelf → Within (may_leave (log_disk s.log)) (may_leave (log_disk t.log))

@@ -3,6 +3,7 @@ pub mod Buckets
 pub mod Chained
 pub mod Chains
 pub mod Counted
+pub mod Ended
 pub mod Extents
 pub mod Fields
 pub mod Filled

@@ -1,5 +1,5 @@
 -- A hash file as a store.
-use Rattle.std.specs.Prelude.{◌≡◌, ◌≢◌, ◌⊎◌, ℕ, ◌+◌, ◌<◌, ◌≤◌, ◌^◌, min, true, false, List, [], ◌++◌, length, take, MatchOption, Option, Some, None, IfSome}
+use Rattle.std.specs.Prelude.{◌≡◌, ◌≢◌, ◌⊎◌, ℕ, ◌+◌, ◌<◌, ◌≤◌, ◌^◌, ◌==◌, ◌&&◌, if◌then◌else◌, min, true, false, List, [], ◌++◌, length, take, MatchOption, Option, Some, None, IfSome}
 use Rattle.std.specs.Option.{option_map}
 use Rattle.tk_disk.specs.Crash.{OnlyReads}
 use Rattle.tk_model.specs.Records.{after, replay, AllFit, IsClearAlone}
@@ -20,7 +20,7 @@ use Rattle.tk_append.specs.Restored.{groups_in, restored_groups, IsUntorn, IsKep
 use Rattle.tk_append.specs.FileText.{text_of, IsFile}
 use Rattle.tk_hash.specs.Chain.{cost_in}
 use Rattle.tk_hash.specs.Plan.{with_heads, FitHeads}
-use Rattle.tk_hash.specs.Seek.{IsShelf}
+use Rattle.tk_hash.specs.Seek.{KnowsHeads, IsShelf}
 use Rattle.tk_hash.specs.declared.store.HashStore.{HashStore}
 use Rattle.tk_hash.specs.declared.store.Staged.{Staged}
 
@@ -39,6 +39,10 @@ abbrev pub floor_of : (next : ℕ) → Option ℕ → ℕ
 floor_of next None = next
 floor_of next (Some n) = n + 1
 
+-- the next number of a closing part, where the file is closed
+abbrev pub ended_with : Closing → Option ℕ
+ended_with c = if c.size == 0 then None else Some c.next
+
 -- an image restores to the first groups followed by a front of these, at least n of them
 pub record RestoresTo (first groups : List Group) (n : ℕ) (c : List ℕ) : Type 0 where
   pub count : ℕ
@@ -46,8 +50,8 @@ pub record RestoresTo (first groups : List Group) (n : ℕ) (c : List ℕ) : Typ
   pub most : count ≤ length groups
   pub front : restored_groups c ≡ first ++ take count groups
 
--- a log over the closed file of these groups, with this closing part
-pub record IsClosedLog {D : Type 0} (image : D → Option (List ℕ)) (log : GroupLog D) (closing : Closing) (groups : List Group) : Type 0 where
+-- a log over the closed file of these groups, with this closing part and these heads
+pub record IsClosedLog {D : Type 0} (image : D → Option (List ℕ)) (log : GroupLog D) (closing : Closing) (heads : List ℕ) (groups : List Group) : Type 0 where
   pub header : is_static (log_head log) ≡ true
   pub generation : (log_head log).generation < 2 ^ 64
   pub legal : AreGroups 0 closing.next groups
@@ -57,6 +61,7 @@ pub record IsClosedLog {D : Type 0} (image : D → Option (List ℕ)) (log : Gro
   pub count : closing.count ≡ length (replay Hash groups [])
   pub end_is : log_end log ≡ end_of (base_of (log_head log).p) (bodies_of groups)
   pub text : IfSome (image (log_disk log)) (λ f. f ≡ text_of (log_head log) closing groups)
+  pub heads_are : HeadsAre (log_head log).p heads (blocks_of (log_head log) groups)
 
 -- from one disk to the next: where every image has these groups, every image goes on to have them
 pub record KeepsGroups {D : Type 0} (may_leave : D → List ℕ → Type 0) (moment : D → ℕ) (left_since : D → ℕ → List ℕ → Type 0) (h : StaticHead) (groups : List Group) (old new : D) : Type 0 where
@@ -81,7 +86,7 @@ module _ {D : Type 0} where
   hash_closing s = s.closing
 
   abbrev pub hash_nature : HashStore D → Nature
-  hash_nature s = record { order = Hash; limit = min s.limit (2 ^ 40); next = s.next; writable = s.writable; marks = false; extents = Some 1; header = static_text (log_head s.log); log = None }
+  hash_nature s = record { order = Hash; limit = min s.limit (2 ^ 40); next = s.next; longest_value = 33554431; writable = s.writable; marks = false; extents = Some 1; header = static_text (log_head s.log); log = None }
 
   -- the records of the file, where the disk tells it
   abbrev pub map_in : (image : D → Option (List ℕ)) → HashStore D → Option (List (Rattle.tk_model.specs.declared.record.Pair.Pair))
@@ -94,6 +99,7 @@ module _ {D : Type 0} where
     floor = floor_of s.next s.last;
     held_back = false;
     closed = s.closed;
+    ended = if s.closed && s.writable then ended_with s.closing else None;
     cost = λ k. option_map (λ f. cost_in (log_head s.log) (groups_in (log_head s.log) f) k) (image (log_disk s.log));
     needs = λ cs. Some (extents_need (hash_nature s) 1 cs);
     log_size = 0;
@@ -102,14 +108,14 @@ module _ {D : Type 0} where
   -- what waits is a group of these changes behind any groups that the file may have: its links, the heads and the count of records after it
   pub record IsStaged (image : D → Option (List ℕ)) (s : HashStore D) (cs : List Change) (g : Staged) : Type 0 where
     pub some : cs ≢ []
-    pub heads : FitHeads (log_head s.log).p g.heads
+    pub heads : FitHeads (2 ^ (log_head s.log).p) g.heads
     pub links : List ℕ
     pub ready : IsReady s.log cs links
     pub ends : (number : ℕ) → end_of (log_end s.log) (group_bodies number cs) ≤ 2 ^ 40
     pub links_are : (number : ℕ) (groups : List Group) → IfSome (image (log_disk s.log)) (λ f. IsFile (log_head s.log) f groups
         → links ≡ links_of (log_head s.log).p (blocks_of (log_head s.log) groups) (laid (log_end s.log) (group_bodies number cs)))
-    pub heads_are : (number : ℕ) (groups : List Group) (heads : List ℕ) → IfSome (image (log_disk s.log)) (λ f. IsFile (log_head s.log) f groups → HeadsAre (log_head s.log).p heads (blocks_of (log_head s.log) groups)
-        → HeadsAre (log_head s.log).p (with_heads g.heads heads) (blocks_of (log_head s.log) groups ++ laid (log_end s.log) (group_bodies number cs)))
+    pub heads_are : (number : ℕ) (groups : List Group) → IfSome (image (log_disk s.log)) (λ f. IsFile (log_head s.log) f groups
+        → HeadsAre (log_head s.log).p (with_heads g.heads s.heads.items) (blocks_of (log_head s.log) groups ++ laid (log_end s.log) (group_bodies number cs)))
     pub count_is : (groups : List Group) → IfSome (image (log_disk s.log)) (λ f. IsFile (log_head s.log) f groups → s.count ≡ length (replay Hash groups [])
         → g.count ≡ length (after Hash cs (replay Hash groups [])))
 
@@ -133,6 +139,7 @@ module _ {D : Type 0} where
     pub end_is : log_end s.log ≡ end_of (base_of (log_head s.log).p) (bodies_of (groups ++ since))
     pub end_fits : log_end s.log < 2 ^ 64
     pub buffer : 131072 ≤ length s.buffer.items
+    pub heads : KnowsHeads (image (log_disk s.log)) (log_head s.log) s.heads.items
     -- a file that is written is marked as open until it is closed
     pub mark : s.writable ≡ true → s.closed ≡ false → s.closing ≡ open_mark
     -- a file that is read alone gets no group and keeps its closing part

@@ -1,6 +1,6 @@
 -- The laws of hash files as stores.
-use Rattle.std.proofs.Common.{◌≡◌, ℕ, ◌+◌, ◌-◌, ◌<◌, ◌≤◌, ◌^◌, List, [], ◌∷◌, ◌++◌, length, take, drop, true, refl, sym, ◌∙◌, ap, subst, arith, length-append, length-take, length-drop, append_assoc}
-use Rattle.std.specs.Prelude.{Option, Some, None, IfSome}
+use Rattle.std.proofs.Common.{◌≡◌, ℕ, ◌+◌, ◌-◌, ◌<◌, ◌≤◌, ◌^◌, List, [], ◌∷◌, ◌++◌, length, take, drop, true, false, refl, sym, ◌∙◌, ap, subst, arith, length-append, length-take, length-drop, append_assoc}
+use Rattle.std.specs.Prelude.{Bool, Option, Some, None, IfSome, ◌==◌, ◌&&◌, if◌then◌else◌}
 use Rattle.std.specs.Option.{option_map}
 use Rattle.std.proofs.lemmas.List.{take-append-drop, take-append-le, append-nil}
 use Rattle.std.proofs.lemmas.Option.{IfSome_then}
@@ -27,7 +27,8 @@ use Rattle.tk_append.specs.Restored.{groups_in, groups_text, IsUntorn, IsKept}
 use Rattle.tk_append.proofs.Groupings.{groups_upto}
 use Rattle.tk_append.proofs.Restoring.{reads_back, restores, kept_less}
 use Rattle.tk_hash.specs.declared.store.HashStore.{HashStore}
-use Rattle.tk_hash.specs.Hash.{groups_held, floor_of, RestoresTo, hash_nature, hash_shown, map_in, HashStands, HashSafe, HashStood}
+use Rattle.tk_disk.proofs.Moments.{nothing_read, reads_joined}
+use Rattle.tk_hash.specs.Hash.{hash_disk, HashUntouched, ended_with, groups_held, floor_of, RestoresTo, hash_nature, hash_shown, map_in, HashStands, HashSafe, HashStood}
 
 groups_from : (low least next : ℕ) (gs : List Group) → low ≤ least → AreGroups least next gs → AreGroups low next gs
 groups_from low least next [] le legal = omega (arith, le, legal)
@@ -190,3 +191,35 @@ module _ {D : Type 0} (image : D → Option (List ℕ)) where
 
   pub hash_by_extents : (s : HashStore D) (v : ℕ) (changes : List Change) → (hash_nature s).extents ≡ Some v → (hash_shown image s).needs changes ≡ Some (extents_need (hash_nature s) v changes)
   hash_by_extents s v changes is = let one : 1 ≡ v = cc in ap (λ (n : ℕ). Some (extents_need (hash_nature s) n changes)) one
+
+  pub hash_unended : (s : HashStore D) → (hash_shown image s).closed ≡ false → (hash_shown image s).ended ≡ None
+  hash_unended s unclosed = rw unclosed refl
+
+  chosen : (b : Bool) (o : Option ℕ) (n : ℕ) → (if b then o else None) ≡ Some n → o ≡ Some n
+  chosen true o n is = is
+  chosen false o n is = absurd (cc)
+
+  sized : (b : Bool) (m n : ℕ) → (if b then None else Some m) ≡ Some n → m ≡ n
+  sized true m n is = absurd (cc)
+  sized false m n is = cc
+
+  -- a store that was ended with a number has it in the closing part that stands in the file
+  pub hash_ended : (may_leave : D → List ℕ → Type 0) (s : HashStore D) (first : First) (since : List Group) (hard n : ℕ) → HashStands image may_leave s first since hard → (hash_shown image s).ended ≡ Some n
+      → IfSome (image (hash_disk s)) (λ f. (c : Closing) × (c.next ≡ n) × (f ≡ text_of (log_head s.log) c (groups_held first.held ++ since)))
+  hash_ended may_leave s first since hard n st ended =
+      let next : s.closing.next ≡ n = sized (s.closing.size == 0) s.closing.next n (chosen (s.closed && s.writable) (ended_with s.closing) n ended) in
+      IfSome_then (image (log_disk s.log)) st.there (λ f there. (s.closing, next, subst (λ (gs : List Group). f ≡ text_of (log_head s.log) s.closing (gs ++ since)) (sym (ap groups_held st.held)) there))
+
+pub hash_values : {D : Type 0} (s : HashStore D) → (16777215 ≤ (hash_nature s).longest_value) × ((hash_nature s).longest_value ≤ 33554431)
+hash_values s = (omega arith, omega arith)
+
+module _ {D : Type 0} (image : D → Option (List ℕ)) (may_leave : D → List ℕ → Type 0) (moment : D → ℕ) (left_since : D → ℕ → List ℕ → Type 0) where
+  pub hash_untouched_same : (s : HashStore D) → HashUntouched image may_leave moment left_since s s
+  hash_untouched_same s = record { same = refl; still = nothing_read may_leave moment left_since (hash_disk s) }
+
+  pub hash_untouched_then : ((disk : D) (t : ℕ) (c : List ℕ) → t ≤ moment disk → may_leave disk c → left_since disk t c) → (a b c : HashStore D)
+      → HashUntouched image may_leave moment left_since a b → HashUntouched image may_leave moment left_since b c → HashUntouched image may_leave moment left_since a c
+  hash_untouched_then counts_now a b c first second = record {
+    same = second.same ∙ first.same;
+    still = reads_joined may_leave moment left_since counts_now (hash_disk a) (hash_disk b) (hash_disk c) first.still second.still;
+  }

@@ -30,10 +30,10 @@ abbrev pub AllBelow : (number : ℕ) → List NewHead → Type 0
 AllBelow number [] = Unit {0}
 AllBelow number (n ∷ ns) = (n.bucket < number) × AllBelow number ns
 
--- each is the head of a bucket
-abbrev pub FitHeads : (p : ℕ) → NewHeads → Type 0
-FitHeads p Cleared = Unit {0}
-FitHeads p (Renewed ns) = AllBelow (2 ^ p) ns.items
+-- each is the head of one of so many buckets
+abbrev pub FitHeads : (number : ℕ) → NewHeads → Type 0
+FitHeads number Cleared = Unit {0}
+FitHeads number (Renewed ns) = AllBelow number ns.items
 
 -- what writes of heads leave as it was, and what a crash may leave: what it did before, but for the heads
 pub record Puts {D : Type 0} (image : D → Option (List ℕ)) (may_leave : D → List ℕ → Type 0) (moment : D → ℕ) (left_since : D → ℕ → List ℕ → Type 0) (taken : D → ℕ) (old new : GroupLog D) : Type 0 where

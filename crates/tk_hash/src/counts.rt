@@ -7,6 +7,7 @@ ghost use Rattle.tk_model.specs.declared.record.Order.TheVariants.{Hash};
 ghost use Rattle.tk_model.specs.declared.record.Group.{Group};
 ghost use Rattle.tk_store.specs.Store.{HasCause, NeverFull};
 ghost use Rattle.tk_append.specs.FileText.{IsFile};
+ghost use Rattle.tk_hash.specs.Seek.{KnowsHeads};
 ghost use Rattle.tk_hash.specs.Plan.{mark_in, marked, told_there, count_after};
 
 use crate::links::key_of;
@@ -51,11 +52,13 @@ fn mark_before(
 fn was_there<D: Disk>(
     disk: &mut D,
     head: &StaticHead,
+    heads: &[u64],
     buffer: &mut [u8],
     marks: &HashedRecords,
     key: &[u8],
 ) -> Result<bool, StoreError>
     requires p { head.now.p ≤ 24 }
+    requires heads { KnowsHeads (D.image disk.old) head.now heads.now }
     requires buffer { 131072 ≤ length buffer.old }
     ensures value { (groups : List Group) → IfSome (D.image disk.old) (λ f. IsFile head.now f groups
         → IfOk result (λ there. there ≡ told_there (find key.now marks.now) (is_some (find key.now (replay Hash groups []))))) }
@@ -68,7 +71,7 @@ fn was_there<D: Disk>(
 {
     match marks.get(key) {
         Some(mark) => Ok(!mark.is_empty()),
-        None => has_key(disk, head, buffer, key),
+        None => has_key(disk, head, heads, buffer, key),
     }
 }
 
@@ -100,11 +103,13 @@ pub(crate) fn count_changes<D: Disk>(
     alloc: Global,
     disk: &mut D,
     head: &StaticHead,
+    heads: &[u64],
     count: u64,
     buffer: &mut [u8],
     changes: &[Change],
 ) -> Result<u64, StoreError>
     requires p { head.now.p ≤ 24 }
+    requires heads { KnowsHeads (D.image disk.old) head.now heads.now }
     requires buffer { 131072 ≤ length buffer.old }
     requires alone { HasNoClear changes.now }
     ensures count { (groups : List Group) → IfSome (D.image disk.old) (λ f. IsFile head.now f groups → count ≡ length (replay Hash groups [])
@@ -121,7 +126,7 @@ pub(crate) fn count_changes<D: Disk>(
     for i in 0..changes.len() {
         let change = &changes[i];
         mark_before(alloc, &mut marks, changes, i)?;
-        let there = was_there(disk, head, buffer, &marks, key_of(change))?;
+        let there = was_there(disk, head, heads, buffer, &marks, key_of(change))?;
         count = counted(count, change, there)?;
     }
     Ok(count)

@@ -1,4 +1,4 @@
-ghost use Rattle.std.specs.Prelude.{◌≡◌, ◌+◌, ◌≤◌, ◌<◌, ◌^◌, ◌∷◌, [], ℕ, List, length, min, true, false, IfOk, IfErr, IsOk, OnOk, IfSome, Some};
+ghost use Rattle.std.specs.Prelude.{◌≡◌, ◌+◌, ◌≤◌, ◌<◌, ◌^◌, ◌∷◌, [], ℕ, List, length, replicate, min, true, false, IfOk, IfErr, IsOk, OnOk, IfSome, Some};
 ghost use Rattle.std.specs.Option.{is_some, option_map};
 ghost use Rattle.tk_disk.specs.Crash.{Torn, Only, OnlyReads, LeavesOnly};
 ghost use Rattle.tk_disk.specs.Disk.{Rose, HasCause};
@@ -25,6 +25,17 @@ fn buffer_of(alloc: Global) -> Result<Vec<u8>, NoMemory>
     ensures { IfOk result (λ b. 131072 ≤ length b.items) }
 {
     zeros(alloc, BUFFER)
+}
+
+/// The heads of empty buckets, and the buffer of a store.
+fn room_of(alloc: Global, p: u8) -> Result<(Vec<u64>, Vec<u8>), NoMemory>
+    requires { p ≤ 24 }
+    ensures heads { IfOk result (λ room. room.0.items ≡ replicate (2 ^ p) 0) }
+    ensures buffer { IfOk result (λ room. 131072 ≤ length room.1.items) }
+{
+    let mut heads = Vec::new(alloc);
+    heads.resize(1 << p, 0)?;
+    Ok((heads, buffer_of(alloc)?))
 }
 
 /// Writes the file of a header and no records. Where memory ran out, what was written is cut away.
@@ -115,7 +126,12 @@ impl<D: Disk> HashStore<D> {
         ensures time { IfOk result (λ s. LeavesOnly D.moment D.left_since disk (hash_disk s) (λ c. (d : List ℕ) × D.may_leave disk d × Torn 32 32 d c)) }
         ensures back_time { IfErr result (λ u. LeavesOnly D.moment D.left_since disk u.disk (λ c. (d : List ℕ) × D.may_leave disk d × Torn 32 32 d c)) }
     {
-        let CountedLog { log, count, next } = read_counted(alloc, disk, &[1], writable, shard)?;
+        let CountedLog {
+            log,
+            heads,
+            count,
+            next,
+        } = read_counted(alloc, disk, &[1], writable, shard)?;
         let closing = Closing {
             size: log.end(),
             count,
@@ -130,7 +146,7 @@ impl<D: Disk> HashStore<D> {
                 });
             }
         };
-        HashStore::of_log(alloc, log, closing, writable, limit, buffer)
+        HashStore::of_log(alloc, log, closing, writable, limit, heads, buffer)
     }
 
     /// Writes the fresh hash file of kind 1 to an empty disk, and makes it durable that it is open for writing.
@@ -165,7 +181,7 @@ impl<D: Disk> HashStore<D> {
             order: 0,
             generation: 0,
         };
-        let Ok(buffer) = buffer_of(alloc) else {
+        let Ok((heads, buffer)) = room_of(alloc, p) else {
             return Err(Unopened {
                 cause: OpenError::NoMemory,
                 disk,
@@ -181,7 +197,7 @@ impl<D: Disk> HashStore<D> {
                     count: 0,
                     next: 0,
                 };
-                HashStore::of_log(alloc, log, closing, true, limit, buffer)
+                HashStore::of_log(alloc, log, closing, true, limit, heads, buffer)
             }
             Err(cause) => Err(Unopened { cause, disk }),
         }
@@ -194,11 +210,12 @@ impl<D: Disk> HashStore<D> {
         closing: Closing,
         writable: bool,
         limit: u64,
+        heads: Vec<u64>,
         buffer: Vec<u8>,
     ) -> Result<HashStore<D>, Unopened<D>>
         requires buffer { 131072 ≤ length buffer.items }
-        requires whole { (groups : List Group) × IsClosedLog D.image log closing groups }
-        ensures stands { (groups : List Group) → IsClosedLog D.image log closing groups → IfOk result (λ s. HashStands D.image D.may_leave s (opening groups) [] 0) }
+        requires whole { (groups : List Group) × IsClosedLog D.image log closing heads.items groups }
+        ensures stands { (groups : List Group) → IsClosedLog D.image log closing heads.items groups → IfOk result (λ s. HashStands D.image D.may_leave s (opening groups) [] 0) }
         ensures head { IfOk result (λ s. hash_head s ≡ log_head log) }
         ensures mode { IfOk result (λ s. ((hash_nature s).writable ≡ writable) × ((hash_shown D.image s).closed ≡ false)) }
         ensures next { IfOk result (λ s. (hash_nature s).next ≡ closing.next) }
@@ -229,6 +246,7 @@ impl<D: Disk> HashStore<D> {
                 writable,
                 closed: false,
                 limit,
+                heads,
                 buffer,
                 shelf: None,
                 staged: None,

@@ -16,6 +16,7 @@ ghost use Rattle.tk_append.specs.Log.{blocks_of};
 ghost use Rattle.tk_append.specs.LogParts.{log_disk, log_head, log_end};
 ghost use Rattle.tk_append.specs.FileText.{text_with, IsFile};
 ghost use Rattle.tk_hash.specs.declared.plan.NewHeads.TheVariants.{Cleared};
+ghost use Rattle.tk_hash.specs.Seek.{KnowsHeads};
 ghost use Rattle.tk_hash.specs.Plan.{with_new, with_heads, AllBelow, FitHeads, Puts};
 
 use crate::counts::count_changes;
@@ -71,21 +72,23 @@ pub(crate) fn plan_changes<D: Disk>(
     alloc: Global,
     disk: &mut D,
     head: &StaticHead,
+    heads: &[u64],
     end: u64,
     count: u64,
     buffer: &mut [u8],
     changes: &ChangeList,
 ) -> Result<Plan, StoreError>
     requires p { head.now.p ≤ 24 }
+    requires heads { KnowsHeads (D.image disk.old) head.now heads.now }
     requires buffer { 131072 ≤ length buffer.old }
     requires fit { AllFit changes.now }
     requires alone { IsClearAlone changes.now }
     requires end { end_of end (group_bodies 0 changes.now) ≤ 2 ^ 40 }
     ensures links { (number : ℕ) (groups : List Group) → IfSome (D.image disk.old) (λ f. IsFile head.now f groups
         → IfOk result (λ plan. plan.links ≡ links_of head.now.p (blocks_of head.now groups) (laid end (group_bodies number changes.now)))) }
-    ensures heads { (number : ℕ) (groups : List Group) (heads : List ℕ) → IfSome (D.image disk.old) (λ f. IsFile head.now f groups → HeadsAre head.now.p heads (blocks_of head.now groups)
-        → IfOk result (λ plan. HeadsAre head.now.p (with_heads plan.heads heads) (blocks_of head.now groups ++ laid end (group_bodies number changes.now)))) }
-    ensures fit { IfOk result (λ plan. FitHeads head.now.p plan.heads) }
+    ensures heads { (number : ℕ) (groups : List Group) → IfSome (D.image disk.old) (λ f. IsFile head.now f groups
+        → IfOk result (λ plan. HeadsAre head.now.p (with_heads plan.heads heads.now) (blocks_of head.now groups ++ laid end (group_bodies number changes.now)))) }
+    ensures fit { IfOk result (λ plan. FitHeads (2 ^ head.now.p) plan.heads) }
     ensures count { (groups : List Group) → IfSome (D.image disk.old) (λ f. IsFile head.now f groups → count ≡ length (replay Hash groups [])
         → IfOk result (λ plan. plan.count ≡ length (after Hash changes.now (replay Hash groups [])))) }
     ensures counts { IfOk result (λ plan. length plan.links ≡ length changes.now) }
@@ -100,9 +103,9 @@ pub(crate) fn plan_changes<D: Disk>(
     if let [Change::Clear] = changes {
         return Ok(plan_clear(alloc)?);
     }
-    let mut chains = chain_changes(alloc, disk, head, end, changes)?;
+    let mut chains = chain_changes(alloc, head.p, heads, end, changes)?;
     chains.settle(alloc)?;
-    let count = count_changes(alloc, disk, head, count, buffer, changes)?;
+    let count = count_changes(alloc, disk, head, heads, count, buffer, changes)?;
     Ok(Plan {
         links: chains.links,
         heads: NewHeads::Renewed(chains.heads),
@@ -151,10 +154,31 @@ fn put_zeros<D: Disk>(log: &mut GroupLog<D>, zeros: &[u8]) -> Result<(), DiskErr
     Ok(())
 }
 
+/// Puts each of these among the heads.
+fn renew(heads: &mut [u64], new: &[NewHead])
+    requires { AllBelow (length heads.old) new.now }
+    ensures { heads.new ≡ with_new new.now heads.old }
+{
+    for head in new {
+        heads[head.bucket as usize] = head.place;
+    }
+}
+
+/// Makes the heads in memory those that a group leaves.
+pub(crate) fn set_heads(heads: &mut [u64], new: &NewHeads)
+    requires { FitHeads (length heads.old) new.now }
+    ensures { heads.new ≡ with_heads new.now heads.old }
+{
+    match new {
+        NewHeads::Cleared => heads.fill(0),
+        NewHeads::Renewed(new) => renew(heads, new),
+    }
+}
+
 /// Writes the new heads.
 pub(crate) fn put_heads<D: Disk>(log: &mut GroupLog<D>, heads: &NewHeads) -> Result<(), DiskError>
     requires p { (log_head log.old).p ≤ 24 }
-    requires fit { FitHeads (log_head log.old).p heads.now }
+    requires fit { FitHeads (2 ^ (log_head log.old).p) heads.now }
     requires there { IfSome (D.image (log_disk log.old)) (λ f. base_of (log_head log.old).p ≤ length f) }
     ensures written { (c : Closing) (old : List ℕ) (groups : List Group) → IfSome (D.image (log_disk log.old)) (λ f. f ≡ text_with (log_head log.old) c old groups → length old ≡ 2 ^ (log_head log.old).p
         → OnOk result (D.image (log_disk log.new) ≡ Some (text_with (log_head log.old) c (with_heads heads.now old) groups))) }

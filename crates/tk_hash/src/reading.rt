@@ -10,27 +10,9 @@ ghost use Rattle.tk_hash.specs.Shelf.{StandsIn};
 use crate::block::read_bytes;
 use std::alloc::Global;
 use tk_block::{u16_at, u32_at, u64_at};
-use tk_buckets::number_at;
 use tk_disk::{Disk, zeros};
 use tk_model::{Bytes, Change, NoMemory, Pair};
 use tk_store::StoreError;
-
-/// The head of a bucket in the file.
-pub(crate) fn head_at<D: Disk>(disk: &mut D, bucket: u64) -> Result<u64, StoreError>
-    requires bucket { bucket < 2 ^ 24 }
-    ensures value { IfSome (D.image disk.old) (λ f. 64 + 8 * bucket + 8 ≤ length f → IfOk result (λ n. n ≡ u64_in f (64 + 8 * bucket))) }
-    ensures cost { D.taken_count disk.new ≤ D.taken_count disk.old + 8 }
-    ensures image { D.image disk.new ≡ D.image disk.old }
-    ensures still { OnlyReads D.may_leave D.moment D.left_since disk.old disk.new }
-    ensures taken { D.taken_count disk.old ≤ D.taken_count disk.new }
-    ensures cause { HasCause (D.fault_count disk.old) (D.fault_count disk.new) result }
-    ensures answers { OkOrFault result }
-{
-    match number_at(disk, 64 + 8 * bucket) {
-        Ok(place) => Ok(place),
-        Err(_) => Err(StoreError::Fault),
-    }
-}
 
 /// So many bytes from a place on.
 fn bytes_at<D: Disk>(

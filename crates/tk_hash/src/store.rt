@@ -1,13 +1,13 @@
-ghost use Rattle.std.specs.Prelude.{◌≡◌, ◌≢◌, ◌≤◌, ◌<◌, ◌+◌, ◌-◌, ◌^◌, ◌++◌, ◌∷◌, ◌==◌, ◌&&◌, not, nat_lt, ℕ, List, [], length, take, Option, IfOk, IfSome, OnOk, OnErr, Some, Ok, Err, true, false, if◌then◌else◌, sum_by};
+ghost use Rattle.std.specs.Prelude.{◌≡◌, ◌≢◌, ◌≤◌, ◌<◌, ◌+◌, ◌-◌, ◌^◌, ◌++◌, ◌∷◌, ℕ, List, [], length, take, Option, IfOk, IfSome, OnOk, OnErr, Some, None, Ok, Err, true, false, if◌then◌else◌, sum_by};
 ghost use Rattle.std.specs.Option.{is_some};
 ghost use Rattle.tk_disk.specs.Crash.{Only};
 ghost use Rattle.tk_model.specs.Records.{find, AllFit, IsClearAlone};
 ghost use Rattle.tk_model.specs.declared.record.Group.{Group};
 ghost use Rattle.tk_model.specs.declared.record.Change.{Change as Changed};
-ghost use Rattle.tk_store.specs.Store.{First, made, extent_of as change_extent, HasCause, NeverFull, OkOrFault, IsWhole, GivesInto, Keeps, KeepsSince, LeavesSafe};
+ghost use Rattle.tk_store.specs.Store.{First, made, ended_by, extent_of as change_extent, HasCause, NeverFull, OkOrFault, UnlessFault, OnNoMemory, IsWhole, GivesInto, Keeps, KeepsSince, LeavesSafe, OnlyLooks, GoesOn};
 ghost use Rattle.tk_append.specs.Log.{closed_text};
 
-use crate::plan::{NewHeads, plan_changes, put_heads};
+use crate::plan::{NewHeads, plan_changes, put_heads, set_heads};
 use crate::seek::{get_value, get_value_into};
 use crate::shelf::{Shelf, first_record, last_record};
 use std::alloc::Global;
@@ -15,7 +15,7 @@ use tk_append::{GroupLog, extent_of_change};
 use tk_block::Closing;
 use tk_disk::{Disk, DiskError};
 use tk_model::{Bound, Bytes, Change, ChangeList, NoMemory, Order, Pair};
-use tk_store::{SeqStore, StoreError};
+use tk_store::{SeqStore, StoreError, is_over};
 
 /// The longest file.
 const LIMIT: u64 = 1 << 40;
@@ -40,6 +40,8 @@ pub struct HashStore<D: Disk> {
     pub(crate) writable: bool,
     pub(crate) closed: bool,
     pub(crate) limit: u64,
+    /// The newest block of each bucket.
+    pub(crate) heads: Vec<u64>,
     /// Room for a block's front, so that look-ups take no memory.
     pub(crate) buffer: Vec<u8>,
     pub(crate) shelf: Option<Shelf>,
@@ -61,16 +63,6 @@ fn need_of(changes: &[Change]) -> Result<u64, NoMemory>
     Ok(need)
 }
 
-/// The group would pass the limit.
-fn is_over(size: u64, need: u64, limit: u64, empty: bool) -> bool
-    ensures { result ≡ (nat_lt limit (size + need) && not (empty && (need == 0))) }
-{
-    if empty && need == 0 {
-        return false;
-    }
-    limit < size || limit - size < need
-}
-
 /// A disk's answer as a store's: its only error is a fault.
 fn told<T>(answer: Result<T, DiskError>) -> Result<T, StoreError>
     ensures ok { IfOk answer (λ v. result ≡ Ok v) }
@@ -83,7 +75,7 @@ fn told<T>(answer: Result<T, DiskError>) -> Result<T, StoreError>
 }
 
 impl<D: Disk> HashStore<D> {
-    ghost use Rattle.tk_hash.specs.Hash.{hash_disk, hash_head, hash_nature, hash_shown, groups_held, IsStaged, HashStands, HashStood, KeepsGroups, opening};
+    ghost use Rattle.tk_hash.specs.Hash.{hash_disk, hash_head, hash_closing, hash_nature, hash_shown, groups_held, IsStaged, HashStands, HashStood, KeepsGroups, opening};
 
     /// Makes a group of these changes ready.
     fn stage(&mut self, changes: &ChangeList) -> Result<Staged, StoreError>
@@ -108,6 +100,7 @@ impl<D: Disk> HashStore<D> {
             self.alloc,
             self.log.disk(),
             &head,
+            &self.heads,
             end,
             self.count,
             &mut self.buffer,
@@ -146,6 +139,7 @@ impl<D: Disk> HashStore<D> {
         self.shelf = None;
         told(self.log.append(number))?;
         told(put_heads(&mut self.log, &staged.heads))?;
+        set_heads(&mut self.heads, &staged.heads);
         self.count = staged.count;
         self.last = Some(number);
         Ok(())
@@ -163,6 +157,8 @@ impl<D: Disk> HashStore<D> {
         ensures file { (groups since : List Group) (hard : ℕ) → HashStands D.image D.may_leave self.old (opening groups) since hard
             → OnOk result (IfSome (D.image (hash_disk self.old)) (λ _. D.image (hash_disk self.new) ≡ Some (closed_text (hash_head self.old) (groups ++ since) next))) }
         ensures durable { OnOk result (IfSome (D.image (hash_disk self.new)) (λ f. Only f (D.may_leave (hash_disk self.new)))) }
+        ensures ended { OnOk result ((hash_shown D.image self.new).ended ≡ Some next) }
+        ensures unended { OnErr result (hash_closing self.new ≡ hash_closing self.old) }
         ensures nature { hash_nature self.new ≡ hash_nature self.old }
         ensures head { hash_head self.new ≡ hash_head self.old }
         ensures closed { (hash_shown D.image self.new).closed ≡ (hash_shown D.image self.old).closed }
@@ -195,6 +191,7 @@ impl<D: Disk> HashStore<D> {
             writable: _,
             closed: _,
             limit: _,
+            heads: _,
             buffer: _,
             shelf: _,
             staged: _,
@@ -206,7 +203,7 @@ impl<D: Disk> HashStore<D> {
 impl<D: Disk> SeqStore for HashStore<D> {
     ghost use Rattle.std.specs.Prelude.{true, Bool};
     ghost use Rattle.tk_hash.specs.Hash.{hash_disk, hash_head, hash_nature, hash_shown, HashUntouched, HashStands, HashPrepared, HashSafe, HashStood, opening};
-    ghost use Rattle.tk_hash.specs.HashLaws.{hash_replays, hash_rising, hash_held, hash_stood_now, hash_stood_less, hash_safe_less, hash_by_extents};
+    ghost use Rattle.tk_hash.specs.HashLaws.{hash_replays, hash_rising, hash_held, hash_stood_now, hash_stood_less, hash_safe_less, hash_by_extents, hash_unended, hash_values, hash_untouched_same, hash_untouched_then};
 
     ghost nature = { hash_nature };
 
@@ -250,6 +247,14 @@ impl<D: Disk> SeqStore for HashStore<D> {
 
     ghost safe_less = { hash_safe_less D.image D.left_since };
 
+    ghost unended = { hash_unended D.image };
+
+    ghost values = { hash_values };
+
+    ghost untouched_same = { hash_untouched_same D.image D.may_leave D.moment D.left_since };
+
+    ghost untouched_then = { hash_untouched_then D.image D.may_leave D.moment D.left_since D.counts_now };
+
     ghost tells_need = { λ s changes told. Prim.cc };
 
     ghost by_extents = { hash_by_extents D.image };
@@ -288,6 +293,7 @@ impl<D: Disk> SeqStore for HashStore<D> {
             self.alloc,
             self.log.disk(),
             &head,
+            &self.heads,
             &mut self.buffer,
             key,
             out,
@@ -298,18 +304,20 @@ impl<D: Disk> SeqStore for HashStore<D> {
         requires whole { IsWhole (HashStands D.image D.may_leave) self.old }
         ensures value { IfSome (hash_shown D.image self.old).map (λ m. IfOk result (GivesInto (find key.now m) into.old into.new)) }
         ensures cost { IfSome ((hash_shown D.image self.old).cost key.now) (λ most. D.taken_count (hash_disk self.new) ≤ D.taken_count (hash_disk self.old) + most) }
-        ensures nature { hash_nature self.new ≡ hash_nature self.old }
-        ensures shown { hash_shown D.image self.new ≡ hash_shown D.image self.old }
-        ensures stands { Keeps (HashStands D.image D.may_leave) self.old self.new }
-        ensures since { KeepsSince (HashStood D.image D.may_leave D.moment D.left_since) self.old self.new }
-        ensures time { D.moment (hash_disk self.old) ≤ D.moment (hash_disk self.new) }
-        ensures reads { (hash_nature self.old).writable ≡ false → HashUntouched D.image D.may_leave D.moment D.left_since self.old self.new }
-        ensures taken { D.taken_count (hash_disk self.old) ≤ D.taken_count (hash_disk self.new) }
+        ensures looks { OnlyLooks hash_nature (hash_shown D.image) (HashStands D.image D.may_leave) (HashStood D.image D.may_leave D.moment D.left_since)
+            (HashUntouched D.image D.may_leave D.moment D.left_since) (λ s. D.moment (hash_disk s)) (λ s. D.taken_count (hash_disk s)) self.old self.new }
         ensures cause { HasCause (D.fault_count (hash_disk self.old)) (D.fault_count (hash_disk self.new)) result }
         ensures answers { OkOrFault result }
     {
         let head = *self.log.head();
-        get_value_into(self.log.disk(), &head, &mut self.buffer, key, into)
+        get_value_into(
+            self.log.disk(),
+            &head,
+            &self.heads,
+            &mut self.buffer,
+            key,
+            into,
+        )
     }
 
     fn next(&mut self, bound: &Bound) -> Result<Option<Pair>, StoreError> {
@@ -328,14 +336,13 @@ impl<D: Disk> SeqStore for HashStore<D> {
 
     fn reserve_group(&mut self, changes: &ChangeList) -> Result<(), StoreError> {
         self.staged = None;
-        let empty = changes.is_empty();
         let size = self.log.end();
         let need = need_of(changes.as_slice())?;
         let limit = self.limit.min(LIMIT);
-        if is_over(size, need, limit, empty) {
+        if is_over(size, need, limit, changes) {
             return Err(StoreError::Full { size, need, limit });
         }
-        if !empty {
+        if !changes.is_empty() {
             self.staged = Some(self.stage(changes)?);
         }
         Ok(())
@@ -362,14 +369,15 @@ impl<D: Disk> SeqStore for HashStore<D> {
         requires below { (hash_nature self.old).writable ≡ true → next < 2 ^ 64 - 1 }
         ensures stands { (first : First) (since : List Group) (hard : ℕ) → HashStands D.image D.may_leave self.old first since hard
             → OnOk result (HashStands D.image D.may_leave self.new first (since ++ made (hash_nature self.old) next []) (length (since ++ made (hash_nature self.old) next []))) }
-        ensures map { OnOk result ((hash_shown D.image self.new).map ≡ (hash_shown D.image self.old).map) }
+        ensures map { UnlessFault result ((hash_shown D.image self.new).map ≡ (hash_shown D.image self.old).map) }
         ensures since { (t n : ℕ) (first : First) (since : List Group) (hard : ℕ) → HashStood D.image D.may_leave D.moment D.left_since self.old t n first since hard
             → OnOk result (HashStood D.image D.may_leave D.moment D.left_since self.new t n first (since ++ made (hash_nature self.old) next []) (length (since ++ made (hash_nature self.old) next []))) }
         ensures safe { LeavesSafe (HashStood D.image D.may_leave D.moment D.left_since) (HashSafe D.image D.left_since) (made (hash_nature self.old) next []) self.old self.new }
-        ensures nature { hash_nature self.new ≡ hash_nature self.old }
         ensures closed { (hash_shown D.image self.new).closed ≡ true }
-        ensures time { D.moment (hash_disk self.old) ≤ D.moment (hash_disk self.new) }
-        ensures taken { D.taken_count (hash_disk self.old) ≤ D.taken_count (hash_disk self.new) }
+        ensures ended { OnOk result ((hash_shown D.image self.new).ended ≡ ended_by (hash_nature self.old) next) }
+        ensures unended { OnErr result ((hash_shown D.image self.new).ended ≡ None) }
+        ensures kept { OnNoMemory result (Keeps (HashStands D.image D.may_leave) self.old self.new × KeepsSince (HashStood D.image D.may_leave D.moment D.left_since) self.old self.new) }
+        ensures goes_on { GoesOn hash_nature (hash_shown D.image) (λ s. D.moment (hash_disk s)) (λ s. D.taken_count (hash_disk s)) self.old self.new }
         ensures cause { HasCause (D.fault_count (hash_disk self.old)) (D.fault_count (hash_disk self.new)) result }
         ensures never { NeverFull result }
         ensures answers { OkOrFault result }

@@ -1,8 +1,8 @@
 ghost use Rattle.std.specs.Prelude.{◌≡◌, ◌≤◌, ◌<◌, ◌+◌, ◌^◌, ◌++◌, ◌∷◌, [], length, true, false, IfOk, OnOk};
 ghost use Rattle.tk_model.specs.declared.record.Change.TheVariants.{Put};
-ghost use Rattle.tk_model.specs.Records.{AllFit, IsClearAlone};
+ghost use Rattle.tk_model.specs.Records.{IsClearAlone};
 ghost use Rattle.tk_disk.specs.MemDisk.{mem_bytes, mem_image, MemMayLeave};
-ghost use Rattle.tk_store.specs.Store.{IsWhole};
+ghost use Rattle.tk_store.specs.Store.{IsWhole, AllFitWithin};
 ghost use Rattle.tk_hash.specs.Hash.{hash_nature, hash_shown, HashStands};
 
 use super::*;
@@ -342,7 +342,7 @@ fn add_put(
 
 /// A key that is set and then removed, one that is set twice, and one more.
 fn mixed_changes(alloc: Global) -> Result<ChangeList, NoMemory>
-    ensures fit { IfOk result AllFit }
+    ensures fit { IfOk result (AllFitWithin 16777215) }
     ensures alone { IfOk result IsClearAlone }
 {
     let mut changes = ChangeList::new(alloc);
@@ -356,7 +356,7 @@ fn mixed_changes(alloc: Global) -> Result<ChangeList, NoMemory>
 
 /// A clear alone.
 fn clearing(alloc: Global) -> Result<ChangeList, NoMemory>
-    ensures fit { IfOk result AllFit }
+    ensures fit { IfOk result (AllFitWithin 16777215) }
     ensures alone { IfOk result IsClearAlone }
 {
     let mut changes = ChangeList::new(alloc);
@@ -371,7 +371,7 @@ fn apply<S: SeqStore>(store: &mut S, number: u64, changes: &ChangeList) -> Resul
     requires writable { (S.nature store.old).writable ≡ true }
     requires number { (S.shown store.old).floor ≤ number }
     requires alone { IsClearAlone changes.now }
-    requires fit { AllFit changes.now }
+    requires fit { AllFitWithin 16777215 changes.now }
     ensures whole { OnOk result (IsWhole S.stands store.new) }
     ensures open { OnOk result ((S.shown store.new).closed ≡ false) }
     ensures writable { OnOk result ((S.nature store.new).writable ≡ true) }

@@ -1,4 +1,5 @@
 pub mod Whole
+pub mod Fits
 pub mod Acts
 pub mod Mem
 pub mod Bounds

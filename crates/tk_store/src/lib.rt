@@ -3,6 +3,7 @@
 
 mod error;
 mod hashed;
+mod limit;
 mod memory;
 mod records;
 mod run;
@@ -10,6 +11,7 @@ mod store;
 
 pub use error::StoreError;
 pub use hashed::{HashedRecords, end_bucket, first_bucket, number_of_buckets};
+pub use limit::is_over;
 pub use run::run_on;
 pub use store::SeqStore;
 pub use tk_model::{OpenError, ShardOf, Unopened};

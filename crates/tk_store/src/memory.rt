@@ -1,8 +1,8 @@
 ghost use Rattle.std.specs.Prelude.{◌≡◌, ◌+◌, ◌≤◌, [], IfOk, min, ◌^◌, true, false};
 ghost use Rattle.std.specs.Option.{option_copied};
 
-use crate::records::{copy_pair, first_pair, last_pair, passes, value_at, with_all};
-use crate::{SeqStore, StoreError};
+use crate::records::{copy_pair, first_pair, last_pair, value_at, with_all};
+use crate::{SeqStore, StoreError, is_over};
 use std::alloc::Global;
 use std::mem;
 use tk_model::{Bound, Bytes, ChangeList, NoMemory, Order, Pair};
@@ -16,6 +16,7 @@ pub struct MemStore {
     writable: bool,
     last: Option<u64>,
     closed: bool,
+    end: u64,
     pairs: Vec<Pair>,
     staged: Vec<Pair>,
     grows: bool,
@@ -41,6 +42,7 @@ impl MemStore {
             writable: true,
             last: None,
             closed: false,
+            end: 0,
             pairs: Vec::new(alloc),
             staged: Vec::new(alloc),
             grows: false,
@@ -60,7 +62,7 @@ fn copied_pair(alloc: Global, found: Option<&Pair>) -> Result<Option<Pair>, NoMe
 impl SeqStore for MemStore {
     ghost use Rattle.std.specs.Prelude.{◌≡◌, true, Bool};
     ghost use Rattle.tk_store.specs.Memory.{MemStands, MemPrepared, mem_shown, mem_nature};
-    ghost use Rattle.tk_store.specs.MemoryLaws.{mem_replays, mem_rising, mem_held, mem_numbered, mem_synced, mem_by_extents};
+    ghost use Rattle.tk_store.specs.MemoryLaws.{mem_replays, mem_rising, mem_held, mem_numbered, mem_synced, mem_by_extents, mem_unended, mem_values};
 
     ghost nature = { mem_nature };
 
@@ -103,6 +105,14 @@ impl SeqStore for MemStore {
     ghost stood_safe = { λ s t n first since hard st. tt };
 
     ghost safe_less = { λ s t first since more m n less safe. tt };
+
+    ghost unended = { mem_unended };
+
+    ghost values = { mem_values };
+
+    ghost untouched_same = { λ s. Prim.cc };
+
+    ghost untouched_then = { λ a b c p q. Prim.cc };
 
     ghost tells_need = { λ s changes told. Prim.cc };
 
@@ -180,12 +190,11 @@ impl SeqStore for MemStore {
         let size = self.pairs.as_slice().len() as u64;
         let need = (staged.as_slice().len() as u64).saturating_sub(size);
         let limit = self.room.min(1 << 40);
-        let empty = changes.len() == 0;
-        if passes(size, need, limit, empty) {
+        if is_over(size, need, limit, changes) {
             return Err(StoreError::Full { size, need, limit });
         }
         self.staged = staged;
-        self.grows = !empty;
+        self.grows = !changes.is_empty();
         Ok(())
     }
 
@@ -202,8 +211,9 @@ impl SeqStore for MemStore {
         Ok(())
     }
 
-    fn close(&mut self, _next: u64) -> Result<(), StoreError> {
+    fn close(&mut self, next: u64) -> Result<(), StoreError> {
         self.closed = true;
+        self.end = next;
         Ok(())
     }
 }

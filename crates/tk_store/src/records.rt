@@ -199,13 +199,3 @@ pub fn with_all(
         }
     }
 }
-
-/// The group would pass the limit.
-pub fn passes(size: u64, need: u64, limit: u64, empty: bool) -> bool
-    ensures { result ≡ (nat_lt limit (size + need) && not (empty && (need == 0))) }
-{
-    if empty && need == 0 {
-        return false;
-    }
-    limit < size || limit - size < need
-}

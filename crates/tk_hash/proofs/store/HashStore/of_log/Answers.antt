@@ -5,11 +5,11 @@ use Rattle.tk_hash.proofs.HashOpens.{closed_header, opened}
 use Rattle.tk_hash.proofs.store.HashStore.of_log.Goals as goal
 
 pub begin-requires : goal.begin-requires
-begin-requires g c = record { there = closed_header g.D.Disk.image g.D.Disk.may_leave c.args.log c.args.closing c.requires.whole.0 c.requires.whole.1 }
+begin-requires g c = record { there = closed_header g.D.Disk.image g.D.Disk.may_leave c.args.log c.args.closing c.args.heads.items c.requires.whole.0 c.requires.whole.1 }
 
 pub returns-in-Ok-clause-stands : goal.returns-in-Ok-clause-stands
 returns-in-Ok-clause-stands g c groups is =
-    opened g.D.Disk.image g.D.Disk.may_leave _ c.args.log c.args.closing groups is
+    opened g.D.Disk.image g.D.Disk.may_leave _ c.args.log c.args.closing c.args.heads.items groups is
     (record {
       read_bytes = c.begin.ensures.reads;
       read_closing = c.in-Ok.ensures.same;
@@ -17,7 +17,7 @@ returns-in-Ok-clause-stands g c groups is =
       open_closing = c.in-Ok.ensures.open;
       durable = c.in-Ok.ensures.durable;
     })
-    c.begin.ensures.head c.begin.ensures.end refl refl refl c.requires.buffer refl
+    c.begin.ensures.head c.begin.ensures.end refl refl refl refl c.requires.buffer refl
 
 pub returns-in-Err-clause-back_time : goal.returns-in-Err-clause-back_time
 returns-in-Err-clause-back_time g c =

@@ -1,4 +1,4 @@
-use Rattle.std.proofs.Common.{◌≡◌, ◌+◌, ◌∷◌, ◌++◌, ℕ, List, [], take, sym, ◌∙◌, ap, subst, arith}
+use Rattle.std.proofs.Common.{rules, ◌≡◌, ◌+◌, ◌∷◌, ◌++◌, ℕ, List, [], take, sym, ◌∙◌, ap, subst, arith}
 use Rattle.std.specs.Prelude.{Some, OnOk, sum_by}
 use Rattle.std.proofs.lemmas.Result.{on_ok_weaker}
 use Rattle.tk_model.specs.declared.record.Group.{Group}
@@ -45,8 +45,13 @@ returns-in-Some-clause-safe g c changes p t n first since hard st =
     safe_as g.D.Disk.image g.D.Disk.may_leave g.D.Disk.moment g.D.Disk.left_since c.args.self.now c.put_staged.new.self t n first since (made (hash_nature c.args.self.now) c.args.number changes) hard st
     c.put_staged.ensures.head (ap (λ (k : Nature). k.writable) c.put_staged.ensures.nature) c.put_staged.ensures.told (keeps g c changes p first since hard st.stands)
 
-pub returns-in-Some-clause-told : goal.returns-in-Some-clause-told
-returns-in-Some-clause-told g c = mapped_still _ _ (g.D.Disk.image (log_disk c.args.self.now.log)) (g.D.Disk.image (log_disk c.put_staged.new.self.log)) c.put_staged.ensures.told
+pub returns-in-Some-clause-goes_on : goal.returns-in-Some-clause-goes_on
+returns-in-Some-clause-goes_on g c = record {
+  same_nature = c.put_staged.ensures.nature;
+  tells = mapped_still _ _ (g.D.Disk.image (log_disk c.args.self.now.log)) (g.D.Disk.image (log_disk c.put_staged.new.self.log)) c.put_staged.ensures.told;
+  later = c.put_staged.ensures.time;
+  more_taken = search rules;
+}
 
 pub returns-in-Some-clause-map : goal.returns-in-Some-clause-map
 returns-in-Some-clause-map g c changes p =

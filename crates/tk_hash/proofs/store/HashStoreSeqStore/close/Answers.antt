@@ -1,4 +1,4 @@
-use Rattle.std.proofs.Common.{◌≤◌, ◌++◌, List, [], length, true, sym, ap, subst, arith, ◌≡◌, false}
+use Rattle.std.proofs.Common.{◌∙◌, ◌≤◌, ◌++◌, List, [], length, true, sym, ap, subst, arith, ◌≡◌, false}
 use Rattle.std.specs.Prelude.{None}
 use Rattle.std.proofs.lemmas.List.{append-nil}
 use Rattle.tk_model.specs.declared.record.Group.{Group}
@@ -7,6 +7,7 @@ use Rattle.tk_append.specs.Log.{closed_text}
 use Rattle.tk_append.specs.LogParts.{log_disk, log_head}
 use Rattle.tk_hash.specs.Hash.{HashStands, opening}
 use Rattle.tk_hash.proofs.HashKeeps.{stood_as, safe_as}
+use Rattle.tk_hash.proofs.Ended.{open_unended, on_err}
 use Rattle.tk_hash.proofs.HashGrows.{restaged, map_kept, read_file, as_written, as_read}
 use Rattle.tk_hash.proofs.store.HashStoreSeqStore.close.Goals as goal
 
@@ -50,3 +51,9 @@ returns-else-self-clause-file g c groups since hard st =
     let s = c.args.self.now in
     as_read s.writable (g.D.Disk.image (log_disk s.log)) (g.D.Disk.image (log_disk s.log)) (closed_text (log_head s.log) (groups ++ since) c.args.next) (closed_text (log_head s.log) groups s.next) c.if-self.false
     (read_file g.D.Disk.image g.D.Disk.may_leave s groups since hard st c.if-self.false)
+
+pub returns-in_err-end_file-clause-unended : goal.returns-in_err-end_file-clause-unended
+returns-in_err-end_file-clause-unended g c =
+    let t = c.end_file.new.self in
+    on_err c.from_residual.result (open_unended t.closed t.writable t.closing
+    (λ may. c.in_err-end_file.ensures.unended ∙ c.requires.whole.3.mark (sym (ap (λ (k : Nature). k.writable) c.end_file.ensures.nature) ∙ may) c.requires.«open»))

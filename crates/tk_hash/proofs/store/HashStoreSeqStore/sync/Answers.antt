@@ -17,6 +17,7 @@ returns-in_ok-told-clause-stands g c first since hard st =
       last = refl;
       writable = refl;
       closed = λ unclosed. unclosed;
+      heads = refl;
       buffer = refl;
       bytes = done c.sync_log.result c.told.result c.in_ok-told.field-0 answer (search rules) c.sync_log.ensures.image;
     })
