@@ -143,6 +143,17 @@ pub empty_refused : (writable : Bool) → RefusedAt writable [] 0
 unfolding first_fault
 empty_refused writable = record { cause = NotADatabase; fault = refl; place_is = refl }
 
+-- the end of a call doesn't say that a file is there
+pub never_there : (answer : Result Status Stop) (given : Result (Unit {0}) DiskError) (finish : Finish) → finish ≡ call_end answer given → finish.status ≡ 7 → ⊥
+never_there (Ok s) (Ok g) finish is e = other_status s finish 7 (λ h. cc h) (λ h. cc h) is e
+never_there (Ok s) (Err x) finish is e = not_status finish (ended 4) 7 is (λ h. cc h) e
+never_there (Err (stops.Refused place)) given finish is e = not_status finish (refused_at 0 place) 7 is (λ h. cc h) e
+never_there (Err stops.Full) (Ok g) finish is e = not_status finish (answered 21) 7 is (λ h. cc h) e
+never_there (Err stops.Full) (Err x) finish is e = not_status finish (ended 4) 7 is (λ h. cc h) e
+never_there (Err stops.Fault) given finish is e = not_status finish (ended 4) 7 is (λ h. cc h) e
+never_there (Err stops.NoMemory) (Ok g) finish is e = not_status finish (ended 5) 7 is (λ h. cc h) e
+never_there (Err stops.NoMemory) (Err x) finish is e = not_status finish (ended 4) 7 is (λ h. cc h) e
+
 -- a value that was found is one
 is_found : (value : Option (List ℕ)) (s : Status) (finish : Finish) → s ≡ (get_reply value).status → finish ≡ ended_by s → finish.status ≡ 0 → IsSome value
 is_found None s finish replied is e = absurd (not_status finish (answered 7) 0 (is ∙ ap ended_by replied) (λ h. cc h) e)
@@ -165,13 +176,13 @@ clear_answer true n = inl refl
 clear_answer false n = inr (inr (inr refl))
 
 -- the end of a call, where its disk is given back, is no fault unless the call's answer is one
-pub no_fault : {R : Finish → Type 0} {P : Type 0} (answer : Result Status Stop) → (answer ≡ Err stops.Fault → P) → ((finish : Finish) → finish ≡ call_end answer (Ok tt) → R finish)
-    → ((end : Finish) × IsClear end.status × R end) ⊎ P
-no_fault (Ok s) fault ran = inl (ended_by s, clear_answer (number_of s == 0) (number_of s), ran (ended_by s) refl)
-no_fault (Err (stops.Refused place)) fault ran = inl (refused_at 0 place, inr (inl refl), ran (refused_at 0 place) refl)
-no_fault (Err stops.Full) fault ran = inl (answered 21, inr (inr (inr refl)), ran (answered 21) refl)
-no_fault (Err stops.Fault) fault ran = inr (fault refl)
-no_fault (Err stops.NoMemory) fault ran = inl (ended 5, inr (inr (inl refl)), ran (ended 5) refl)
+pub no_fault : {R : Finish → Type 0} {P : Type 0} (C : ℕ → Type 0) → ((status : ℕ) → IsClear status → C status) → (answer : Result Status Stop) → (answer ≡ Err stops.Fault → P) → ((finish : Finish) → finish ≡ call_end answer (Ok tt) → R finish)
+    → ((end : Finish) × C end.status × R end) ⊎ P
+no_fault C clear (Ok s) fault ran = inl (ended_by s, clear (ended_by s).status (clear_answer (number_of s == 0) (number_of s)), ran (ended_by s) refl)
+no_fault C clear (Err (stops.Refused place)) fault ran = inl (refused_at 0 place, clear 3 (inr (inl refl)), ran (refused_at 0 place) refl)
+no_fault C clear (Err stops.Full) fault ran = inl (answered 21, clear 6 (inr (inr (inr refl))), ran (answered 21) refl)
+no_fault C clear (Err stops.Fault) fault ran = inr (fault refl)
+no_fault C clear (Err stops.NoMemory) fault ran = inl (ended 5, clear 5 (inr (inr (inl refl))), ran (ended 5) refl)
 
 pub rose_moved : (p q old new : ℕ) → p ≡ old → new ≡ q → Rose p q → Rose old new
 rose_moved p q old new first last rose = subst (λ (n : ℕ). Rose n new) first (subst (λ (n : ℕ). Rose p n) (sym last) rose)

@@ -12,7 +12,7 @@ use Rattle.tk_util.specs.Words.{KeyWords}
 use Rattle.tk_util.specs.World.{World}
 use Rattle.tk_util.specs.declared.words.FileCommand.{FileCommand}
 use Rattle.tk_util.specs.declared.words.FileCommand.TheVariants as asked
-use Rattle.tk_util.specs.Asked.{said, key_said}
+use Rattle.tk_util.specs.Asked.{file_said, key_said}
 use Rattle.tk_util.specs.Ran.{Ran, IsLine, RanGet}
 use Rattle.tk_util.specs.Done.{LookedUp, RanOnFile}
 use Rattle.tk_util.proofs.Endings.{ran_stopped, not_status}
@@ -70,21 +70,21 @@ module _ (f0 f1 : List ℕ → Option (List ℕ)) (left h0 h1 value : Option (Li
   again c l = record { call = l.call; files = l.files; found = l.found }
 
   -- a command that printed its line
-  pub line_ran : (a : FileCommand) → RanOnFile a before_print (record { files = f1; left = left; held = h0 }) value found → (v : List ℕ) → value ≡ Some v → found.status ≡ 0 → Appends h0 h1 (v ++ 10 ∷ []) → Ran (said a) before_print after_print found
+  pub line_ran : (a : FileCommand) → RanOnFile a before_print (record { files = f1; left = left; held = h0 }) value found → (v : List ℕ) → value ≡ Some v → found.status ≡ 0 → Appends h0 h1 (v ++ 10 ∷ []) → Ran (file_said a) before_print after_print found
   line_ran (asked.Get c) done v is e out = got_line (key_said c) before_print after_print value found (again (key_said c) done) refl v is e out
   line_ran (asked.Set c) done v is e out = absurd (cc (is, done.1))
   line_ran (asked.Remove c) done v is e out = absurd (cc (is, done.1))
 
   -- one that printed a front of it
   pub front_ran : (a : FileCommand) (finish : Finish) → RanOnFile a before_print (record { files = f1; left = left; held = h0 }) value found → (v : List ℕ) → (finish ≡ ended 4) ⊎ (finish ≡ ended 5) → value ≡ Some v → found.status ≡ 0 → AppendsFront h0 h1 (v ++ 10 ∷ [])
-      → Ran (said a) before_print after_print finish
+      → Ran (file_said a) before_print after_print finish
   front_ran (asked.Get c) finish done v stops is e out = got_front (key_said c) before_print after_print value found (again (key_said c) done) refl finish v stops is e out
   front_ran (asked.Set c) finish done v stops is e out = absurd (cc (is, done.1))
   front_ran (asked.Remove c) finish done v stops is e out = absurd (cc (is, done.1))
 
 -- one that printed nothing
 pub nothing_ran : (a : FileCommand) (f0 f1 : List ℕ → Option (List ℕ)) (left held value : Option (List ℕ)) (found : Finish) → RanOnFile a (record { files = f0; left = left; held = held }) (record { files = f1; left = left; held = held }) value found → (found.status ≢ 0) ⊎ (value ≡ None)
-    → Ran (said a) (record { files = f0; left = left; held = held }) (record { files = f1; left = left; held = held }) found
+    → Ran (file_said a) (record { files = f0; left = left; held = held }) (record { files = f1; left = left; held = held }) found
 nothing_ran (asked.Get c) f0 f1 left held value found done silent = record {
   call = done.call;
   files = done.files;

@@ -8,6 +8,7 @@ pub mod OnFolder
 pub mod Printing
 pub mod Ready
 pub mod Replies
+pub mod Restoring
 pub mod SameCommand
 pub mod SetEndings
 pub mod Sparing

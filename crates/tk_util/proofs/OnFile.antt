@@ -1,6 +1,7 @@
 -- A command on its file, by its call and by giving the disk back.
 use Rattle.std.proofs.Common.{◌≡◌, ◌≢◌, ℕ, Bool, true, false, List, refl, sym, ◌∙◌, ap, subst, inl, inr}
 use Rattle.std.specs.Prelude.{Option, Some, None, IsSome, IfSome, IfOk, Result, Ok, Err, ◌⊎◌}
+use Rattle.tk_disk.specs.Disk.{Rose}
 use Rattle.tk_disk.specs.Folder.{or_empty}
 use Rattle.tk_disk.specs.declared.disk.DiskError.{DiskError}
 use Rattle.std.proofs.lemmas.Option.{IfSome_then}
@@ -12,10 +13,10 @@ use Rattle.tk_util.specs.declared.call.Stop.{Stop}
 use Rattle.tk_util.specs.declared.call.Stop.TheVariants as stops
 use Rattle.tk_util.specs.declared.words.FileCommand.{FileCommand}
 use Rattle.tk_util.specs.declared.words.FileCommand.TheVariants as asked
-use Rattle.tk_util.specs.Asked.{said, set_said}
+use Rattle.tk_util.specs.Asked.{file_said, set_said}
 use Rattle.tk_util.specs.Done.{IsMade, CallDone, GetDone, SetDone, FreshAnswer, CommandDone, NotTaken, RanOnFile, counted_answer}
 use Rattle.tk_util.specs.Ends.{call_end}
-use Rattle.tk_util.specs.Ran.{RanSet, RanFile, Settled, OnlyFile, file_of, creates, set_text}
+use Rattle.tk_util.specs.Ran.{RanSet, RanFile, Settled, IsClear, IsClearEnd, IsRunStatus, RoseOf, OnlyFile, file_of, creates, set_text}
 use Rattle.tk_util.specs.Words.{SetWords}
 use Rattle.tk_util.specs.World.{World}
 use Rattle.tk_util.proofs.Endings.{ran, ran_absent, ran_stopped, empty_refused, there, has_bytes, told_call, found_call, not_status}
@@ -23,7 +24,7 @@ use Rattle.tk_util.proofs.Names.{all_same}
 use Rattle.tk_util.proofs.SetEndings.{ok_fresh, fresh_end, memory_end}
 
 abbrev file_in : FileCommand → List ℕ
-file_in a = file_of (said a)
+file_in a = file_of (file_said a)
 
 module _ (before after : World) (answer : Result Status Stop) (given : Result (Unit {0}) DiskError) (finish : Finish) (is : finish ≡ call_end answer given) (o0 o1 : Option (List ℕ)) where
   set_done : (c : SetWords) → SetDone c.key c.value (or_empty (before.files c.file)) o1 answer → after.files c.file ≡ o1 → OnlyFile c.file before after → RanSet c before after finish
@@ -36,7 +37,7 @@ module _ (before after : World) (answer : Result Status Stop) (given : Result (U
   }
 
   -- the call was made
-  pub on_file_done : (a : FileCommand) (value : Option (List ℕ)) → (creates (said a) ≡ false → IsSome (before.files (file_in a))) → o0 ≡ Some (or_empty (before.files (file_in a)))
+  pub on_file_done : (a : FileCommand) (value : Option (List ℕ)) → (creates (file_said a) ≡ false → IsSome (before.files (file_in a))) → o0 ≡ Some (or_empty (before.files (file_in a)))
       → IfSome o0 (λ f. CommandDone a f o1 value answer) → after.files (file_in a) ≡ o1 → OnlyFile (file_in a) before after → RanOnFile a before after value finish
   on_file_done (asked.Get c) value present taken call back only =
       let f : List ℕ = or_empty (before.files c.file.now) in
@@ -61,8 +62,25 @@ module _ (before after : World) (answer : Result Status Stop) (given : Result (U
         done.1,
       )
 
+-- a call's end without a fault is one of its command
+pub clear_end : (a : FileCommand) (status : ℕ) → IsClear status → IsClearEnd (file_said a) status
+clear_end (asked.Get c) status clear = clear
+clear_end (asked.Set c) status clear = clear
+clear_end (asked.Remove c) status clear = clear
+
+-- a fault of its disk
+pub rose_of : (a : FileCommand) (old new : List ℕ → ℕ) → Rose (old (file_in a)) (new (file_in a)) → RoseOf (file_said a) old new
+rose_of (asked.Get c) old new rose = rose
+rose_of (asked.Set c) old new rose = rose
+rose_of (asked.Remove c) old new rose = rose
+
+-- it ends with one of its statuses
+pub run_status : (a : FileCommand) (finish : Finish) → (finish.status ≡ 4) ⊎ IsClear finish.status → IsRunStatus (file_said a) finish.status
+run_status a finish (inl fault) = inl fault
+run_status a finish (inr clear) = inr (clear_end a finish.status clear)
+
 -- what it did to its file
-pub file_ran : (a : FileCommand) (before after : World) (value : Option (List ℕ)) (finish : Finish) → RanOnFile a before after value finish → RanFile (said a) before after finish
+pub file_ran : (a : FileCommand) (before after : World) (value : Option (List ℕ)) (finish : Finish) → RanOnFile a before after value finish → RanFile (file_said a) before after finish
 file_ran (asked.Get c) before after value finish done = done.call
 file_ran (asked.Set c) before after value finish done = done.0
 file_ran (asked.Remove c) before after value finish done = done.0.call
@@ -88,7 +106,7 @@ module _ (before after : World) where
   stopped (asked.Set c) value finish why none same only = (stopped_set (set_said c) finish why same only, none)
   stopped (asked.Remove c) value finish why none same only = (record { call = ran_stopped true remove_reply c.key.now (before.files c.file.now) (after.files c.file.now) finish why same; only = only }, none)
 
-  absent : (a : FileCommand) (value : Option (List ℕ)) (finish : Finish) → finish ≡ refused_at 0 0 → creates (said a) ≡ false → before.files (file_in a) ≡ None → value ≡ None → after.files (file_in a) ≡ before.files (file_in a) → OnlyFile (file_in a) before after
+  absent : (a : FileCommand) (value : Option (List ℕ)) (finish : Finish) → finish ≡ refused_at 0 0 → creates (file_said a) ≡ false → before.files (file_in a) ≡ None → value ≡ None → after.files (file_in a) ≡ before.files (file_in a) → OnlyFile (file_in a) before after
       → RanOnFile a before after value finish
   absent (asked.Get c) value finish is may gone none same only = record {
     call = ran_absent false get_reply c.key.now (before.files c.file.now) (after.files c.file.now) finish (empty_refused false) gone same is;
@@ -100,18 +118,18 @@ module _ (before after : World) where
 
   module _ (a : FileCommand) (tells : Bool) (value : Option (List ℕ)) (told : tells ≡ true) (none : value ≡ None) (same : after.files (file_in a) ≡ before.files (file_in a)) (only : OnlyFile (file_in a) before after) where
     -- the disk was not taken
-    pub not_taken : (stop : Stop) (finish : Finish) → NotTaken (creates (said a)) tells (before.files (file_in a)) stop → finish ≡ call_end (Err stop) (Ok tt) → RanOnFile a before after value finish
+    pub not_taken : (stop : Stop) (finish : Finish) → NotTaken (creates (file_said a)) tells (before.files (file_in a)) stop → finish ≡ call_end (Err stop) (Ok tt) → RanOnFile a before after value finish
     not_taken (stops.Refused place) finish why is = absent a value finish (is ∙ ap (λ (n : ℕ). refused_at 0 n) why.0) why.1 (why.2 told) none same only
     not_taken stops.Full finish why is = absurd why
     not_taken stops.Fault finish why is = stopped a value finish (inl is) none same only
     not_taken stops.NoMemory finish why is = stopped a value finish (inr is) none same only
 
     -- that is as an end without a fault
-    pub not_taken_settled : (stop : Stop) → NotTaken (creates (said a)) tells (before.files (file_in a)) stop → Settled (said a) before after
-    not_taken_settled (stops.Refused place) why = (refused_at 0 place, inr (inl refl), file_ran a before after value (refused_at 0 place) (not_taken (stops.Refused place) (refused_at 0 place) why refl))
+    pub not_taken_settled : (stop : Stop) → NotTaken (creates (file_said a)) tells (before.files (file_in a)) stop → Settled (file_said a) before after
+    not_taken_settled (stops.Refused place) why = (refused_at 0 place, clear_end a 3 (inr (inl refl)), file_ran a before after value (refused_at 0 place) (not_taken (stops.Refused place) (refused_at 0 place) why refl))
     not_taken_settled stops.Full why = absurd why
-    not_taken_settled stops.Fault why = (ended 5, inr (inr (inl refl)), file_ran a before after value (ended 5) (stopped a value (ended 5) (inr refl) none same only))
-    not_taken_settled stops.NoMemory why = (ended 5, inr (inr (inl refl)), file_ran a before after value (ended 5) (stopped a value (ended 5) (inr refl) none same only))
+    not_taken_settled stops.Fault why = (ended 5, clear_end a 5 (inr (inr (inl refl))), file_ran a before after value (ended 5) (stopped a value (ended 5) (inr refl) none same only))
+    not_taken_settled stops.NoMemory why = (ended 5, clear_end a 5 (inr (inr (inl refl))), file_ran a before after value (ended 5) (stopped a value (ended 5) (inr refl) none same only))
 
 counted_call : (writable : Bool) (reply : Option (List ℕ) → Reply) (key f : List ℕ) (after : Option (List ℕ)) (stands : Bool) (answer : Result Status Stop) → CallDone writable reply key f after answer → CallDone writable reply key f after (counted_answer stands answer)
 counted_call writable reply key f after true answer done = done
@@ -163,7 +181,6 @@ counted_done (asked.Set c) f after value stands answer done = (counted_set c.key
 counted_done (asked.Remove c) f after value stands answer done = (counted_call true remove_reply c.key.now f after stands answer done.0, done.1)
 
 -- the same, with the answer by the disk's count
-pub on_file_counted : {D : Type 0} (image : D → Option (List ℕ)) (a : FileCommand) (o value : Option (List ℕ)) (d e : D) (answer last : Result Status Stop) (stands : Bool) → e ≡ d → last ≡ counted_answer stands answer
-    → IfSome o (λ f. CommandDone a f (image d) value answer) → IfSome o (λ f. CommandDone a f (image e) value last)
-on_file_counted {D = D} image a o value d e answer last stands same is done = IfSome_then o done (λ f x.
-    subst (λ (y : D). CommandDone a f (image y) value last) (sym same) (subst (λ (r : Result Status Stop). CommandDone a f (image d) value r) (sym is) (counted_done a f (image d) value stands answer x)))
+pub on_file_counted : {D : Type 0} (image : D → Option (List ℕ)) (a : FileCommand) (o value : Option (List ℕ)) (d : D) (answer last : Result Status Stop) (stands : Bool) → last ≡ counted_answer stands answer
+    → IfSome o (λ f. CommandDone a f (image d) value answer) → IfSome o (λ f. CommandDone a f (image d) value last)
+on_file_counted image a o value d answer last stands is done = IfSome_then o done (λ f x. subst (λ (r : Result Status Stop). CommandDone a f (image d) value r) (sym is) (counted_done a f (image d) value stands answer x))

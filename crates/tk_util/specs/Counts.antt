@@ -20,8 +20,9 @@ pub record HasExactCause {T E : Type 0} (error : E) (before now : ℕ) (result :
 abbrev pub RoseIn : (old new : ℕ) (disks_old disks_new : List ℕ → ℕ) → Type 0
 RoseIn old new disks_old disks_new = Rose old new ⊎ ((name : List ℕ) × Rose (disks_old name) (disks_new name))
 
--- A command ends with a fault only where a count of the folder or of a disk rose. Without one, and without a refusal, none did.
+-- A command ends with a fault only where a count of the folder or of a disk rose. Where it ends without a fault, a refusal or
+-- a file that is there already, none did.
 pub record EndsByCounts (old new : ℕ) (disks_old disks_new : List ℕ → ℕ) (finish : Finish) : Type 0 where
   pub fault : finish.status ≡ 4 → RoseIn old new disks_old disks_new
-  pub folder : finish.status ≢ 3 → finish.status ≢ 4 → new ≡ old
-  pub disks : finish.status ≢ 3 → finish.status ≢ 4 → (name : List ℕ) → disks_new name ≡ disks_old name
+  pub folder : finish.status ≢ 3 → finish.status ≢ 4 → finish.status ≢ 7 → new ≡ old
+  pub disks : finish.status ≢ 3 → finish.status ≢ 4 → finish.status ≢ 7 → (name : List ℕ) → disks_new name ≡ disks_old name

@@ -6,6 +6,8 @@ use Rattle.tk_util.specs.Calls.{Holds, passes, called_file, RefusedAt}
 use Rattle.tk_proc.specs.Replies.{Reply, get_reply, set_reply, remove_reply}
 use Rattle.tk_status.specs.declared.finish.Finish.{Finish}
 use Rattle.tk_disk.specs.Crash.{Within, Only}
+use Rattle.tk_disk.specs.declared.disk.DiskError.{DiskError}
+use Rattle.tk_disk.specs.declared.disk.DiskError.TheVariants as errors
 use Rattle.tk_disk.specs.Disk.{Rose}
 use Rattle.tk_disk.specs.Folder.{or_empty}
 use Rattle.tk_util.specs.Words.{KeyWords}
@@ -16,6 +18,11 @@ use Rattle.tk_util.specs.declared.words.FileCommand.{FileCommand}
 use Rattle.tk_util.specs.declared.words.FileCommand.TheVariants as asked
 use Rattle.tk_util.specs.declared.call.Stop.{Stop}
 use Rattle.tk_util.specs.declared.call.Stop.TheVariants as stops
+
+-- why a call on a disk was not made
+abbrev pub stop_of : DiskError → Stop
+stop_of errors.Fault = stops.Fault
+stop_of errors.NoMemory = stops.NoMemory
 
 -- the call was made, and its change is in the file
 pub record IsMade (writable : Bool) (reply : Option (List ℕ) → Reply) (key f : List ℕ) (after : Option (List ℕ)) (was : Option (List ℕ)) : Type 0 where
@@ -50,17 +57,17 @@ with_status (Ok s) status = Ok status
 with_status (Err stop) status = Err stop
 
 -- what a call that stopped short answers by its disk's count, which stands or doesn't
-abbrev pub counted_answer : (stands : Bool) → Result Status Stop → Result Status Stop
+abbrev pub counted_answer : {T : Type 0} → (stands : Bool) → Result T Stop → Result T Stop
 counted_answer true answer = answer
-counted_answer false (Ok status) = Ok status
+counted_answer false (Ok v) = Ok v
 counted_answer false (Err (stops.Refused place)) = Err (stops.Refused place)
 counted_answer false (Err stops.Full) = Err stops.Fault
 counted_answer false (Err stops.Fault) = Err stops.Fault
 counted_answer false (Err stops.NoMemory) = Err stops.Fault
 
 -- a count of faults by a call's answer: it rose where there is a fault, and stands where there is neither that nor a refusal
-abbrev pub CallCounts : (before now : ℕ) → Result Status Stop → Type 0
-CallCounts before now (Ok status) = now ≡ before
+abbrev pub CallCounts : {T : Type 0} → (before now : ℕ) → Result T Stop → Type 0
+CallCounts before now (Ok v) = now ≡ before
 CallCounts before now (Err (stops.Refused place)) = before ≤ now
 CallCounts before now (Err stops.Full) = now ≡ before
 CallCounts before now (Err stops.Fault) = Rose before now

@@ -14,7 +14,7 @@ pub record LeavesToCrash (writes tells : Bool) (name : List ℕ) (before after :
   -- the groups of the file
   pub spared : tells ≡ true → Spares (or_empty before) (left name) (leaves name)
   -- nothing new, where nothing was written
-  pub still : (writes ≡ false) ⊎ (finish.status ≡ 3) → Within (left name) (leaves name)
+  pub still : (writes ≡ false) ⊎ ((finish.status ≡ 3) ⊎ (finish.status ≡ 7)) → Within (left name) (leaves name)
   -- the file itself, where the command answered
   pub durable : writes ≡ true → (finish.status ≡ 0) ⊎ (finish.status ≡ 6) → tells ≡ true → IfSome after (λ f. Only f (leaves name))
   pub others : OthersWithin name left leaves

@@ -5,5 +5,6 @@ pub mod Done
 pub mod Ends
 pub mod Leaves
 pub mod Ran
+pub mod Restoring
 pub mod Words
 pub mod World

@@ -10,11 +10,11 @@ ghost use Rattle.tk_append.specs.Log.{closed_text};
 ghost use Rattle.tk_store.specs.Store.{IsWhole, LeavesSafe};
 ghost use Rattle.tk_util.specs.declared.call.Stop.{Stop as Stopped};
 ghost use Rattle.tk_util.specs.Calls.{Made, NoRoom, RefusedAt, MadeOn, NoRoomOn, StopTells, Spares, IsStill};
-ghost use Rattle.tk_util.specs.Done.{CrashDone};
+ghost use Rattle.tk_util.specs.Done.{CrashDone, counted_answer, CallCounts};
 ghost use Rattle.tk_hash.specs.Hash.{HashStands, HashSafe, HashStood, HashUntouched, hash_disk, hash_head, hash_nature, hash_shown, opening};
 
 use std::alloc::Global;
-use tk_disk::Disk;
+use tk_disk::{Disk, DiskError};
 use tk_hash::HashStore;
 use tk_model::{OpenError, ShardOf};
 use tk_proc::RecordProcessor;
@@ -35,33 +35,40 @@ pub(crate) enum Stop {
     NoMemory,
 }
 
+impl From<DiskError> for Stop {
+    ghost use Rattle.tk_util.specs.Done.{stop_of};
+
+    ghost from_gives = { λ e stop. stop ≡ stop_of e };
+
+    fn from(error: DiskError) -> Stop {
+        match error {
+            DiskError::Fault => Stop::Fault,
+            DiskError::NoMemory => Stop::NoMemory,
+        }
+    }
+}
+
 /// A file after a call, and the call's answer.
 pub(crate) struct Called<D> {
     pub disk: D,
     pub answer: Result<Status, Stop>,
 }
 
-impl<D: Disk> Called<D> {
-    ghost use Rattle.tk_util.specs.Done.{counted_answer, CallCounts};
-
-    /// What a call that stopped short answers where its disk counted a fault: that fault.
-    pub(crate) fn counted(self, before: u64) -> Called<D>
-        requires { HasCause Stop.Fault before (D.fault_count self.disk) self.answer }
-        ensures disk { result.disk ≡ self.disk }
-        ensures answer { result.answer ≡ counted_answer (D.fault_count self.disk == before) self.answer }
-        ensures counts { CallCounts before (D.fault_count result.disk) result.answer }
-    {
-        let Called { disk, answer } = self;
-        let answer = match answer {
-            Err(Stop::Full | Stop::NoMemory) if disk.faults() != before => Err(Stop::Fault),
-            answer => answer,
-        };
-        Called { disk, answer }
+/// What a call that stopped short answers where its disk counted a fault: that fault.
+pub(crate) fn counted<T>(answer: Result<T, Stop>, before: u64, now: u64) -> Result<T, Stop>
+    requires { HasCause Stop.Fault before now answer }
+    ensures answer { result ≡ counted_answer (now == before) answer }
+    ensures counts { CallCounts before now result }
+{
+    match answer {
+        Ok(value) => Ok(value),
+        Err(Stop::Full | Stop::NoMemory) if now != before => Err(Stop::Fault),
+        Err(stop) => Err(stop),
     }
 }
 
 /// Why a call on a file that was not opened was not made.
-fn unopened(cause: OpenError) -> Stop
+pub(crate) fn unopened(cause: OpenError) -> Stop
     ensures { StopTells cause result }
 {
     match cause {

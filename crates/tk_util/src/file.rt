@@ -2,14 +2,14 @@
 ghost use Rattle.std.specs.Prelude.{◌≡◌, ◌≢◌, ◌⊎◌, ℕ, List, true, false, Option, IsSome, IfOk, IfErr, IfSome, OnOk, OnErr, None, Err};
 ghost use Rattle.tk_disk.specs.Disk.{Rose};
 ghost use Rattle.tk_disk.specs.Folder.{NoneOut, SameBut, SameHistory, or_empty};
-ghost use Rattle.tk_util.specs.Asked.{said, IsWithinLimits};
+ghost use Rattle.tk_util.specs.Asked.{file_said, IsWithinLimits};
 ghost use Rattle.tk_util.specs.Calls.{Spares};
 ghost use Rattle.tk_util.specs.Counts.{HasCause, HasExactCause, RoseIn, EndsByCounts};
 ghost use Rattle.tk_util.specs.Done.{CommandDone, CrashLeft, NotTaken, RanOnFile};
 ghost use Rattle.tk_util.specs.Leaves.{LeavesToCrash, OthersWithin};
-ghost use Rattle.tk_util.specs.Ran.{Ran, Settled, IsRunStatus, IsEnd, file_of, writes};
+ghost use Rattle.tk_util.specs.Ran.{Ran, Settled, RoseOf, IsRunStatus, IsEnd, file_of, writes};
 
-use crate::call::{Called, Stop};
+use crate::call::{Called, Stop, counted};
 use crate::end::{end_of, print};
 use crate::key::{get_from, remove_from};
 use crate::set::set_on;
@@ -60,7 +60,7 @@ fn call_command<D: Disk>(
     requires unread { getter.old ≡ None }
     ensures done { IfSome (D.image disk) (λ f. CommandDone command.entry f (D.image result.disk) getter.new result.answer) }
     ensures spared { IfSome (D.image disk) (λ f. Spares f (D.may_leave disk) (D.may_leave result.disk)) }
-    ensures crash { CrashLeft (writes (said command.entry)) result.answer (D.may_leave disk) (D.may_leave result.disk) (D.image result.disk) }
+    ensures crash { CrashLeft (writes (file_said command.entry)) result.answer (D.may_leave disk) (D.may_leave result.disk) (D.image result.disk) }
     ensures cause { HasCause Stop.Fault (D.fault_count disk) (D.fault_count result.disk) result.answer }
 {
     match command {
@@ -83,13 +83,13 @@ fn run_unprinted<F: Folder>(
     ensures ran { (left held : Option (List ℕ)) → F.tells folder.old ≡ true
         → RanOnFile command.entry (record { files = F.file folder.old; left = left; held = held }) (record { files = F.file folder.new; left = left; held = held }) getter.new result }
     ensures settled { (left held : Option (List ℕ)) → F.tells folder.old ≡ true
-        → Settled (said command.entry) (record { files = F.file folder.old; left = left; held = held }) (record { files = F.file folder.new; left = left; held = held })
-        ⊎ Rose (F.disk_faults folder.old (file_of (said command.entry))) (F.disk_faults folder.new (file_of (said command.entry))) }
-    ensures crash { LeavesToCrash (writes (said command.entry)) (F.tells folder.old) (file_of (said command.entry)) (F.file folder.old (file_of (said command.entry))) (F.file folder.new (file_of (said command.entry)))
+        → Settled (file_said command.entry) (record { files = F.file folder.old; left = left; held = held }) (record { files = F.file folder.new; left = left; held = held })
+        ⊎ RoseOf (file_said command.entry) (F.disk_faults folder.old) (F.disk_faults folder.new) }
+    ensures crash { LeavesToCrash (writes (file_said command.entry)) (F.tells folder.old) (file_of (file_said command.entry)) (F.file folder.old (file_of (file_said command.entry))) (F.file folder.new (file_of (file_said command.entry)))
         (F.leaves folder.old) (F.leaves folder.new) result }
     ensures counts { EndsByCounts (F.fault_count folder.old) (F.fault_count folder.new) (F.disk_faults folder.old) (F.disk_faults folder.new) result }
     ensures fields { IsEnd result }
-    ensures status { IsRunStatus result.status }
+    ensures status { IsRunStatus (file_said command.entry) result.status }
     ensures tells { F.tells folder.new ≡ F.tells folder.old }
     ensures closed { NoneOut (F.is_out folder.new) }
 {
@@ -98,8 +98,8 @@ fn run_unprinted<F: Folder>(
         Err(stop) => return end_of(Err(stop), Ok(())),
     };
     let faults = disk.faults();
-    let called = call_command(alloc, command, disk, getter);
-    let Called { disk, answer } = called.counted(faults);
+    let Called { disk, answer } = call_command(alloc, command, disk, getter);
+    let answer = counted(answer, faults, disk.faults());
     let given = folder.give(command.file(), disk);
     end_of(answer, given)
 }
@@ -114,18 +114,18 @@ pub(crate) fn run_on_file<F: Folder, W: Sink>(
     requires within { IsWithinLimits command }
     requires home { NoneOut (F.is_out folder.old) }
     ensures ran { (left : Option (List ℕ)) → F.tells folder.old ≡ true
-        → Ran (said command.entry) (record { files = F.file folder.old; left = left; held = W.held out.old }) (record { files = F.file folder.new; left = left; held = W.held out.new }) result }
+        → Ran (file_said command.entry) (record { files = F.file folder.old; left = left; held = W.held out.old }) (record { files = F.file folder.new; left = left; held = W.held out.new }) result }
     ensures settled { (left held : Option (List ℕ)) → F.tells folder.old ≡ true
-        → Settled (said command.entry) (record { files = F.file folder.old; left = left; held = held }) (record { files = F.file folder.new; left = left; held = held })
-        ⊎ Rose (F.disk_faults folder.old (file_of (said command.entry))) (F.disk_faults folder.new (file_of (said command.entry))) }
-    ensures crash { LeavesToCrash (writes (said command.entry)) (F.tells folder.old) (file_of (said command.entry)) (F.file folder.old (file_of (said command.entry))) (F.file folder.new (file_of (said command.entry)))
+        → Settled (file_said command.entry) (record { files = F.file folder.old; left = left; held = held }) (record { files = F.file folder.new; left = left; held = held })
+        ⊎ RoseOf (file_said command.entry) (F.disk_faults folder.old) (F.disk_faults folder.new) }
+    ensures crash { LeavesToCrash (writes (file_said command.entry)) (F.tells folder.old) (file_of (file_said command.entry)) (F.file folder.old (file_of (file_said command.entry))) (F.file folder.new (file_of (file_said command.entry)))
         (F.leaves folder.old) (F.leaves folder.new) result }
     ensures fields { IsEnd result }
-    ensures status { IsRunStatus result.status }
+    ensures status { IsRunStatus (file_said command.entry) result.status }
     ensures clean { result.status ≡ 0 → W.fault_count out.new ≡ W.fault_count out.old }
     ensures fault { result.status ≡ 4 → RoseIn (F.fault_count folder.old) (F.fault_count folder.new) (F.disk_faults folder.old) (F.disk_faults folder.new) ⊎ Rose (W.fault_count out.old) (W.fault_count out.new) }
-    ensures folder_met { result.status ≢ 3 → result.status ≢ 4 → F.fault_count folder.new ≡ F.fault_count folder.old }
-    ensures disks_met { result.status ≢ 3 → result.status ≢ 4 → (name : List ℕ) → F.disk_faults folder.new name ≡ F.disk_faults folder.old name }
+    ensures folder_met { result.status ≢ 3 → result.status ≢ 4 → result.status ≢ 7 → F.fault_count folder.new ≡ F.fault_count folder.old }
+    ensures disks_met { result.status ≢ 3 → result.status ≢ 4 → result.status ≢ 7 → (name : List ℕ) → F.disk_faults folder.new name ≡ F.disk_faults folder.old name }
     ensures tells { F.tells folder.new ≡ F.tells folder.old }
     ensures closed { NoneOut (F.is_out folder.new) }
 {

@@ -5,6 +5,7 @@ mod call;
 mod end;
 mod file;
 mod key;
+mod restore;
 mod run;
 mod set;
 mod words;
