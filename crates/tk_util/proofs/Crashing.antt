@@ -84,7 +84,7 @@ pub still_through : (answer : Result Status Stop) (given : Result (Unit {0}) Dis
     → Within left first → CrashDone answer first last o → Within last leaves → finish ≡ call_end answer given → finish.status ≡ 3 → Within left leaves
 still_through answer given finish left first last leaves o taken done back is e = λ c l. taken c ((crash_end first last o answer given finish is done).0 e c (back c l))
 
-only_moved : (after o : Option (List ℕ)) (last leaves : List ℕ → Type 0) → after ≡ o → Within last leaves → IfSome o (λ f. Only f last) → IfSome after (λ f. Only f leaves)
+pub only_moved : (after o : Option (List ℕ)) (last leaves : List ℕ → Type 0) → after ≡ o → Within last leaves → IfSome o (λ f. Only f last) → IfSome after (λ f. Only f leaves)
 only_moved None o last leaves is back only = tt
 only_moved (Some f) o last leaves is back only = λ c l. told_call o f (λ g. Only g last) (sym is) only c (back c l)
 

@@ -8,7 +8,7 @@ use Rattle.tk_status.specs.declared.Status.{Status}
 use Rattle.tk_status.specs.declared.finish.Finish.{Finish}
 use Rattle.tk_status.specs.Finish.{ended, refused_at, answered, ended_by}
 use Rattle.tk_status.specs.Statuses.{number_of}
-use Rattle.tk_proc.specs.Replies.{Reply}
+use Rattle.tk_proc.specs.Replies.{Reply, get_reply}
 use Rattle.tk_util.specs.declared.call.Stop.{Stop}
 use Rattle.tk_util.specs.declared.call.Stop.TheVariants as stops
 use Rattle.tk_model.specs.declared.error.OpenError.TheVariants.{NotADatabase}
@@ -108,12 +108,6 @@ pub told_call : (o0 : Option (List ℕ)) (f : List ℕ) (P : List ℕ → Type 0
 told_call None f P is p = absurd (cc)
 told_call (Some g) f P is p = subst P (cc is) p
 
--- a call on a disk that tells its bytes
-pub ran_call : (writable : Bool) (reply : Option (List ℕ) → Reply) (key : List ℕ) (before after o0 o1 : Option (List ℕ)) (answer : Result Status Stop) (given : Result (Unit {0}) DiskError) (finish : Finish)
-    → before ≡ Some (or_empty before) → o0 ≡ Some (or_empty before) → IfSome o0 (λ f. CallDone writable reply key f o1 answer) → after ≡ o1 → finish ≡ call_end answer given → RanCall writable reply key before after finish
-ran_call writable reply key before after o0 o1 answer given finish some taken call back is =
-    ran writable reply key before after o1 finish some back answer given (told_call o0 (or_empty before) (λ f. CallDone writable reply key f o1 answer) taken call) is
-
 -- an absent file is refused
 pub ran_absent : (writable : Bool) (reply : Option (List ℕ) → Reply) (key : List ℕ) (before after : Option (List ℕ)) (finish : Finish) → RefusedAt writable [] 0 → before ≡ None → after ≡ before → finish ≡ refused_at 0 0 → RanCall writable reply key before after finish
 ran_absent writable reply key before after finish at none same is =
@@ -149,40 +143,46 @@ pub empty_refused : (writable : Bool) → RefusedAt writable [] 0
 unfolding first_fault
 empty_refused writable = record { cause = NotADatabase; fault = refl; place_is = refl }
 
-found_in : (key : List ℕ) (reply : Option (List ℕ) → Reply) (f : List ℕ) (o1 value : Option (List ℕ)) (answer : Result Status Stop) (given : Result (Unit {0}) DiskError) (finish : Finish)
-    → IfOk answer (λ s. IsMade false reply key f o1 value) → finish ≡ call_end answer given → finish.status ≡ 0 → (h : Holds false f) × (value ≡ value_in h.groups key)
-found_in key reply f o1 value (Ok s) given finish made is e = (made.holds, made.was_is)
-found_in key reply f o1 value (Err (stops.Refused place)) given finish made is e = absurd (not_status finish (refused_at 0 place) 0 is (λ h. cc h) e)
-found_in key reply f o1 value (Err stops.Full) (Ok g) finish made is e = absurd (not_status finish (answered 21) 0 is (λ h. cc h) e)
-found_in key reply f o1 value (Err stops.Full) (Err x) finish made is e = absurd (not_status finish (ended 4) 0 is (λ h. cc h) e)
-found_in key reply f o1 value (Err stops.Fault) given finish made is e = absurd (not_status finish (ended 4) 0 is (λ h. cc h) e)
-found_in key reply f o1 value (Err stops.NoMemory) (Ok g) finish made is e = absurd (not_status finish (ended 5) 0 is (λ h. cc h) e)
-found_in key reply f o1 value (Err stops.NoMemory) (Err x) finish made is e = absurd (not_status finish (ended 4) 0 is (λ h. cc h) e)
+-- the end of a call doesn't say that a file is there
+pub never_there : (answer : Result Status Stop) (given : Result (Unit {0}) DiskError) (finish : Finish) → finish ≡ call_end answer given → finish.status ≡ 7 → ⊥
+never_there (Ok s) (Ok g) finish is e = other_status s finish 7 (λ h. cc h) (λ h. cc h) is e
+never_there (Ok s) (Err x) finish is e = not_status finish (ended 4) 7 is (λ h. cc h) e
+never_there (Err (stops.Refused place)) given finish is e = not_status finish (refused_at 0 place) 7 is (λ h. cc h) e
+never_there (Err stops.Full) (Ok g) finish is e = not_status finish (answered 21) 7 is (λ h. cc h) e
+never_there (Err stops.Full) (Err x) finish is e = not_status finish (ended 4) 7 is (λ h. cc h) e
+never_there (Err stops.Fault) given finish is e = not_status finish (ended 4) 7 is (λ h. cc h) e
+never_there (Err stops.NoMemory) (Ok g) finish is e = not_status finish (ended 5) 7 is (λ h. cc h) e
+never_there (Err stops.NoMemory) (Err x) finish is e = not_status finish (ended 4) 7 is (λ h. cc h) e
 
-pub found_call : (key : List ℕ) (reply : Option (List ℕ) → Reply) (f : List ℕ) (o0 o1 value : Option (List ℕ)) (answer : Result Status Stop) (given : Result (Unit {0}) DiskError) (finish : Finish)
-    → o0 ≡ Some f → IfSome o0 (λ f. IfOk answer (λ s. IsMade false reply key f o1 value)) → finish ≡ call_end answer given → finish.status ≡ 0 → (h : Holds false f) × (value ≡ value_in h.groups key)
-found_call key reply f o0 o1 value answer given finish taken made is e =
-    found_in key reply f o1 value answer given finish (told_call o0 f (λ f. IfOk answer (λ s. IsMade false reply key f o1 value)) taken made) is e
+-- a value that was found is one
+is_found : (value : Option (List ℕ)) (s : Status) (finish : Finish) → s ≡ (get_reply value).status → finish ≡ ended_by s → finish.status ≡ 0 → IsSome value
+is_found None s finish replied is e = absurd (not_status finish (answered 7) 0 (is ∙ ap ended_by replied) (λ h. cc h) e)
+is_found (Some v) s finish replied is e = refl
+
+-- a look-up that ended well found the value of the file
+pub found_call : (key : List ℕ) (f : List ℕ) (o1 value : Option (List ℕ)) (answer : Result Status Stop) (given : Result (Unit {0}) DiskError) (finish : Finish)
+    → IfOk answer (λ s. IsMade false get_reply key f o1 value × (s ≡ (get_reply value).status)) → finish ≡ call_end answer given → finish.status ≡ 0 → (h : Holds false f) × (value ≡ value_in h.groups key) × IsSome value
+found_call key f o1 value (Ok s) (Ok g) finish made is e = (made.0.holds, made.0.was_is, is_found value s finish made.1 is e)
+found_call key f o1 value (Ok s) (Err x) finish made is e = absurd (not_status finish (ended 4) 0 is (λ h. cc h) e)
+found_call key f o1 value (Err (stops.Refused place)) given finish made is e = absurd (not_status finish (refused_at 0 place) 0 is (λ h. cc h) e)
+found_call key f o1 value (Err stops.Full) (Ok g) finish made is e = absurd (not_status finish (answered 21) 0 is (λ h. cc h) e)
+found_call key f o1 value (Err stops.Full) (Err x) finish made is e = absurd (not_status finish (ended 4) 0 is (λ h. cc h) e)
+found_call key f o1 value (Err stops.Fault) given finish made is e = absurd (not_status finish (ended 4) 0 is (λ h. cc h) e)
+found_call key f o1 value (Err stops.NoMemory) (Ok g) finish made is e = absurd (not_status finish (ended 5) 0 is (λ h. cc h) e)
+found_call key f o1 value (Err stops.NoMemory) (Err x) finish made is e = absurd (not_status finish (ended 4) 0 is (λ h. cc h) e)
 
 clear_answer : (b : Bool) (n : ℕ) → IsClear (if b then ended 0 else answered n).status
 clear_answer true n = inl refl
 clear_answer false n = inr (inr (inr refl))
 
 -- the end of a call, where its disk is given back, is no fault unless the call's answer is one
-pub no_fault : {R : Finish → Type 0} {P : Type 0} (answer : Result Status Stop) → (answer ≡ Err stops.Fault → P) → ((finish : Finish) → finish ≡ call_end answer (Ok tt) → R finish)
-    → ((end : Finish) × IsClear end.status × R end) ⊎ P
-no_fault (Ok s) fault ran = inl (ended_by s, clear_answer (number_of s == 0) (number_of s), ran (ended_by s) refl)
-no_fault (Err (stops.Refused place)) fault ran = inl (refused_at 0 place, inr (inl refl), ran (refused_at 0 place) refl)
-no_fault (Err stops.Full) fault ran = inl (answered 21, inr (inr (inr refl)), ran (answered 21) refl)
-no_fault (Err stops.Fault) fault ran = inr (fault refl)
-no_fault (Err stops.NoMemory) fault ran = inl (ended 5, inr (inr (inl refl)), ran (ended 5) refl)
-
--- a call that met no fault ends without one, if the disk is given back
-pub settled_call : (writable : Bool) (reply : Option (List ℕ) → Reply) (key : List ℕ) (before after o0 o1 : Option (List ℕ)) (answer : Result Status Stop) (P : Type 0)
-    → before ≡ Some (or_empty before) → o0 ≡ Some (or_empty before) → IfSome o0 (λ f. CallDone writable reply key f o1 answer) → after ≡ o1 → (answer ≡ Err stops.Fault → P)
-    → ((end : Finish) × IsClear end.status × RanCall writable reply key before after end) ⊎ P
-settled_call writable reply key before after o0 o1 answer P some taken call back fault =
-    no_fault answer fault (λ finish is. ran_call writable reply key before after o0 o1 answer (Ok tt) finish some taken call back is)
+pub no_fault : {R : Finish → Type 0} {P : Type 0} (C : ℕ → Type 0) → ((status : ℕ) → IsClear status → C status) → (answer : Result Status Stop) → (answer ≡ Err stops.Fault → P) → ((finish : Finish) → finish ≡ call_end answer (Ok tt) → R finish)
+    → ((end : Finish) × C end.status × R end) ⊎ P
+no_fault C clear (Ok s) fault ran = inl (ended_by s, clear (ended_by s).status (clear_answer (number_of s == 0) (number_of s)), ran (ended_by s) refl)
+no_fault C clear (Err (stops.Refused place)) fault ran = inl (refused_at 0 place, clear 3 (inr (inl refl)), ran (refused_at 0 place) refl)
+no_fault C clear (Err stops.Full) fault ran = inl (answered 21, clear 6 (inr (inr (inr refl))), ran (answered 21) refl)
+no_fault C clear (Err stops.Fault) fault ran = inr (fault refl)
+no_fault C clear (Err stops.NoMemory) fault ran = inl (ended 5, clear 5 (inr (inr (inl refl))), ran (ended 5) refl)
 
 pub rose_moved : (p q old new : ℕ) → p ≡ old → new ≡ q → Rose p q → Rose old new
 rose_moved p q old new first last rose = subst (λ (n : ℕ). Rose n new) first (subst (λ (n : ℕ). Rose p n) (sym last) rose)

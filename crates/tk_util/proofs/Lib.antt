@@ -3,9 +3,12 @@ pub mod Crashing
 pub mod Endings
 pub mod GetEndings
 pub mod Names
+pub mod OnFile
+pub mod OnFolder
 pub mod Printing
 pub mod Ready
 pub mod Replies
+pub mod Restoring
 pub mod SameCommand
 pub mod SetEndings
 pub mod Sparing

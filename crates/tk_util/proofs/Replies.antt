@@ -8,14 +8,14 @@ use Rattle.tk_model.specs.declared.record.Change.{Change}
 use Rattle.tk_model.specs.declared.record.Action.{Action}
 use Rattle.tk_model.specs.declared.record.Action.TheVariants.{Keep}
 use Rattle.tk_status.specs.declared.Status.{Status}
-use Rattle.tk_proc.specs.Replies.{Reply}
+use Rattle.tk_proc.specs.Replies.{Reply, get_reply}
 use Rattle.tk_proc.specs.Runs.{is_long, short, action_changes}
 use Rattle.tk_store.specs.OneRecord.{call_changes}
 use Rattle.tk_util.specs.declared.call.Stop.{Stop}
 use Rattle.tk_util.specs.declared.call.Stop.TheVariants.{Refused, Full, Fault, NoMemory}
 use Rattle.tk_util.specs.Calls.{Made, NoRoom, RefusedAt, passes, called_file}
 use Rattle.tk_util.specs.Ran.{value_in, reply_changes}
-use Rattle.tk_util.specs.Done.{IsMade, CallDone, with_status}
+use Rattle.tk_util.specs.Done.{IsMade, CallDone, GetDone, with_status}
 
 pick_short : (long : Bool) (a : Action) → long ≡ false → (if long then Keep else a) ≡ a
 pick_short true a e = absurd (cc)
@@ -75,3 +75,14 @@ module _ {P : Type 0} (acts : P → List ℕ → Option (List ℕ) → Action) (
   value_made None writable new after r a s value turned made is = tt
   value_made (Some f) writable new after r a s value turned made is =
       subst (λ (x : Result Status Stop). IfOk x (λ _. IsMade writable reply key f after value)) (sym is) (value_of writable f new after r s value turned made)
+
+made_with : (made : Type 0) (a r : Result Status Stop) (s status : Status) → IfOk a (λ _. made) → a ≡ with_status r s → s ≡ status → IfOk a (λ v. made × (v ≡ status))
+made_with made (Ok v) (Ok w) s status m is e = (m, cc)
+made_with made (Ok v) (Err stop) s status m is e = absurd (cc is)
+made_with made (Err stop) r s status m is e = tt
+
+-- a look-up, where the disk tells
+pub get_done : (o : Option (List ℕ)) (key : List ℕ) (after value : Option (List ℕ)) (a r : Result Status Stop) (s : Status) → IfSome o (λ f. CallDone false get_reply key f after a) → IfSome o (λ f. IfOk a (λ _. IsMade false get_reply key f after value))
+    → a ≡ with_status r s → s ≡ (get_reply value).status → after ≡ o → IfSome o (λ f. GetDone key f after value a)
+get_done None key after value a r s call made is e same = tt
+get_done (Some f) key after value a r s call made is e same = record { call = call; found = made_with (IsMade false get_reply key f after value) a r s (get_reply value).status made is e; still = same }

@@ -1,5 +1,5 @@
 -- `set` on a file that has bytes.
-use Rattle.std.proofs.Common.{◌≡◌, ◌≢◌, ℕ, true, List, [], refl, sym, ◌∙◌, ap, subst, inl, inr}
+use Rattle.std.proofs.Common.{◌≡◌, ◌≢◌, ℕ, true, List, [], refl, sym, ◌∙◌, ap, subst}
 use Rattle.std.specs.Prelude.{Option, Some, None, IfSome, OnOk, Result, Ok, Err}
 use Rattle.tk_disk.specs.declared.disk.DiskError.{DiskError}
 use Rattle.tk_status.specs.declared.Status.{Status}
@@ -8,19 +8,20 @@ use Rattle.tk_status.specs.declared.finish.Finish.{Finish}
 use Rattle.tk_status.specs.Finish.{ended, refused_at, answered}
 use Rattle.tk_util.specs.declared.call.Stop.{Stop}
 use Rattle.tk_util.specs.declared.call.Stop.TheVariants as stops
-use Rattle.tk_util.specs.Done.{FreshAnswer}
+use Rattle.tk_util.specs.Done.{FreshAnswer, CallDone, SetDone}
 use Rattle.tk_util.specs.Ends.{call_end}
-use Rattle.tk_util.proofs.Endings.{not_status, other_status, ran_stopped}
-use Rattle.tk_disk.specs.Folder.{or_empty, SameBut}
+use Rattle.tk_util.proofs.Endings.{not_status, other_status}
 use Rattle.tk_proc.specs.Replies.{set_reply}
-use Rattle.tk_util.specs.Ran.{RanSet, IsClear}
-use Rattle.tk_util.specs.Words.{SetWords}
-use Rattle.tk_util.specs.World.{World}
 
--- what is said of a disk after a call that left it
-pub moved : (o m : Option (List ℕ)) (P : List ℕ → Type 0) → IfSome o (λ f. f ≢ [] → m ≡ o) → IfSome m P → IfSome o (λ f. f ≢ [] → P f)
-moved None m P same p = tt
-moved (Some f) m P same p = λ ne. subst (λ (x : Option (List ℕ)). IfSome x P) (same ne) p
+memory_left : (value key f : List ℕ) (after : Option (List ℕ)) (answer : Result Status Stop) → CallDone true (set_reply value true) key f after answer → answer ≡ Err stops.NoMemory → after ≡ Some f
+memory_left value key f after answer done is = subst (λ (a : Result Status Stop). CallDone true (set_reply value true) key f after a) is done
+
+-- a call on a file that has bytes
+pub set_moved : (key value : List ℕ) (o m after : Option (List ℕ)) (answer : Result Status Stop) → IfSome o (λ f. f ≢ []) → IfSome o (λ f. f ≢ [] → m ≡ o) → IfSome m (λ f. CallDone true (set_reply value true) key f after answer) → IfSome o (λ f. SetDone key value f after answer)
+set_moved key value None m after answer some same done = tt
+set_moved key value (Some f) m after answer some same done =
+    let call : CallDone true (set_reply value true) key f after answer = subst (λ (x : Option (List ℕ)). IfSome x (λ f. CallDone true (set_reply value true) key f after answer)) (same some) done in
+    record { fresh = λ empty. absurd (some empty); fresh_ends = λ empty. absurd (some empty); more = λ _. call; no_memory = memory_left value key f after answer call }
 
 -- a command that ended well made its call
 pub ok_fresh : (answer : Result Status Stop) (given : Result (Unit {0}) DiskError) (finish : Finish) (P : Type 0) → finish ≡ call_end answer given → finish.status ≡ 0 → OnOk answer P → P
@@ -56,18 +57,3 @@ memory_end (Err stops.Full) (Ok g) finish is e = absurd (not_status finish (answ
 memory_end (Err stops.Full) (Err x) finish is e = absurd (not_status finish (ended 4) 5 is (λ h. cc h) e)
 memory_end (Err stops.Fault) given finish is e = absurd (not_status finish (ended 4) 5 is (λ h. cc h) e)
 memory_end (Err stops.NoMemory) given finish is e = refl
-
--- nothing was done: an end for want of memory leaves it so
-pub not_made : (c : SetWords) (before after : World) → after.files c.file ≡ before.files c.file → SameBut c.file before.files after.files → after.left ≡ before.left → after.held ≡ before.held
-    → (end : Finish) × IsClear end.status × RanSet c before after end
-not_made c before after same others left held = (
-  ended 5,
-  inr (inr (inl refl)),
-  record {
-    fresh = λ empty e. absurd (cc e);
-    fresh_ends = λ empty. ((λ h. cc h), (λ h. cc h));
-    more = λ bytes. ran_stopped true (set_reply c.value true) c.key (before.files c.file) (after.files c.file) (ended 5) (inr refl) same;
-    no_memory = λ e. ap or_empty same;
-    only = record { others = others; left = left; held = held };
-  },
-)

@@ -3,13 +3,19 @@ use Rattle.std.proofs.Common.{◌≡◌, ◌≢◌, ◌+◌, ℕ, None, List, []
 use Rattle.std.specs.Prelude.{String}
 use Rattle.std.specs.declared.alloc.Global.{Global}
 use Rattle.std.proofs.lemmas.List.{length-map}
-use Rattle.tk_util.specs.Words.{words_of, key_words, set_words}
+use Rattle.tk_util.specs.Words.{words_of, key_words, set_words, restore_words}
 
 pub two_alone : (ws : List (List ℕ)) → length ws ≢ 2 → key_words ws ≡ None
 two_alone [] other = refl
 two_alone (f ∷ []) other = refl
 two_alone (f ∷ k ∷ []) other = absurd (other refl)
 two_alone (f ∷ k ∷ v ∷ ws) other = refl
+
+pub names_alone : (ws : List (List ℕ)) → length ws ≢ 2 → restore_words ws ≡ None
+names_alone [] other = refl
+names_alone (f ∷ []) other = refl
+names_alone (f ∷ t ∷ []) other = absurd (other refl)
+names_alone (f ∷ t ∷ v ∷ ws) other = refl
 
 pub three_alone : (ws : List (List ℕ)) → length ws ≢ 3 → set_words ws ≡ None
 three_alone [] other = refl

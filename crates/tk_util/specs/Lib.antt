@@ -1,7 +1,10 @@
 pub mod Asked
 pub mod Calls
+pub mod Counts
 pub mod Done
 pub mod Ends
+pub mod Leaves
 pub mod Ran
+pub mod Restoring
 pub mod Words
 pub mod World

@@ -1,5 +1,5 @@
 -- What a command does, by its end.
-use Rattle.std.specs.Prelude.{◌≡◌, ◌≢◌, ◌⊎◌, ℕ, List, [], ◌∷◌, ◌++◌, Option, Some, Bool, true, false}
+use Rattle.std.specs.Prelude.{◌≡◌, ◌≢◌, ◌⊎◌, ◌==◌, ◌^◌, nat_lt, ℕ, List, [], ◌∷◌, ◌++◌, Option, Some, None, Bool, true, false, if◌then◌else◌}
 use Rattle.std.specs.Io.KnownBytes.{Appends}
 use Rattle.tk_model.specs.Records.{find, replay}
 use Rattle.tk_model.specs.declared.record.Order.TheVariants.{Hash}
@@ -9,13 +9,16 @@ use Rattle.tk_model.specs.declared.record.Change.TheVariants.{Put}
 use Rattle.tk_proc.specs.Replies.{Reply, get_reply, set_reply, remove_reply}
 use Rattle.tk_proc.specs.Runs.{action_changes}
 use Rattle.tk_status.specs.declared.finish.Finish.{Finish}
-use Rattle.tk_status.specs.Finish.{ended, refused_at, answered, ended_by}
+use Rattle.tk_status.specs.Finish.{ended, refused_at, exists_at, answered, ended_by}
 use Rattle.tk_io.specs.Streams.{AppendsFront}
 use Rattle.tk_disk.specs.Folder.{or_empty, SameBut}
 use Rattle.tk_block.specs.declared.head.StaticHead.{StaticHead}
 use Rattle.tk_block.specs.Layout.{file_text}
+use Rattle.tk_block.specs.Text.{static_at}
+use Rattle.tk_restore.specs.Restoration.{restored_file, restored_size}
 use Rattle.tk_util.specs.Calls.{Holds, passes, called_file, RefusedAt}
-use Rattle.tk_util.specs.Words.{Command, Get, Set, Remove, KeyWords, SetWords}
+use Rattle.tk_disk.specs.Disk.{Rose}
+use Rattle.tk_util.specs.Words.{Command, Get, Set, Remove, Restore, KeyWords, SetWords, RestoreWords}
 use Rattle.tk_util.specs.World.{World}
 
 -- the header of a new hash file
@@ -96,41 +99,93 @@ pub record RanGet (c : KeyWords) (before after : World) (finish : Finish) : Type
   pub silent : (finish.status ≡ 3) ⊎ (finish.status ≡ 6) → after.held ≡ before.held
   pub front : (after.held ≡ before.held) ⊎ ((line : List ℕ) × IsLine c.key (or_empty (before.files c.file)) line × AppendsFront before.held after.held line)
 
+-- where a file of this header can't be restored: it is none of groups, or the new file would be longer than 2^40 bytes
+abbrev pub restore_fault_by : (image : List ℕ) → Option StaticHead → Option ℕ
+restore_fault_by image None = Some 0
+restore_fault_by image (Some h) = if h.kind == 2 then Some 8 else (if nat_lt (2 ^ 40) (restored_size h image) then Some 10 else None)
+
+-- the first place for which a file can't be restored, where there is one
+unfoldable pub restore_fault : (image : List ℕ) → Option ℕ
+restore_fault image = restore_fault_by image (static_at image)
+
+-- a file is the one to which an image is restored
+pub record IsRestored (image : List ℕ) (file : Option (List ℕ)) : Type 0 where
+  pub head : StaticHead
+  pub was : static_at image ≡ Some head
+  pub is : file ≡ Some (restored_file head image)
+
+-- `restore`: the records that a crash left of one file are written as a new one, where none has bytes
+pub record RanRestore (c : RestoreWords) (before after : World) (finish : Finish) : Type 0 where
+  pub done : finish.status ≡ 0 → IsRestored (or_empty (before.files c.from)) (after.files c.to)
+  pub refused : finish.status ≡ 3 → (finish ≡ refused_at 0 finish.place) × (restore_fault (or_empty (before.files c.from)) ≡ Some finish.place)
+  pub exists : finish.status ≡ 7 → (finish ≡ exists_at 1) × (or_empty (before.files c.to) ≢ [])
+  -- the file that is restored is judged first, then the new one
+  pub sound : (finish.status ≡ 0) ⊎ (finish.status ≡ 7) → restore_fault (or_empty (before.files c.from)) ≡ None
+  pub bytes_stay : or_empty (before.files c.to) ≢ [] → (finish.status ≢ 0) × (after.files c.to ≡ before.files c.to)
+  pub unmade : (finish.status ≡ 3) ⊎ (finish.status ≡ 7) → after.files c.to ≡ before.files c.to
+  pub no_memory : finish.status ≡ 5 → or_empty (after.files c.to) ≡ or_empty (before.files c.to)
+  pub only : OnlyFile c.to before after
+
 abbrev pub Ran : Command → (before after : World) → Finish → Type 0
 Ran (Get c) before after finish = RanGet c before after finish
 Ran (Set c) before after finish = RanSet c before after finish
 Ran (Remove c) before after finish = RanRemove c before after finish
+Ran (Restore c) before after finish = RanRestore c before after finish
 
--- the file of a command
+-- the file of a command; of two, the one that is written
 abbrev pub file_of : Command → List ℕ
 file_of (Get c) = c.file
 file_of (Set c) = c.file
 file_of (Remove c) = c.file
+file_of (Restore c) = c.to
+
+-- a command that makes an absent file
+abbrev pub creates : Command → Bool
+creates (Get c) = false
+creates (Set c) = true
+creates (Remove c) = false
+creates (Restore c) = true
 
 -- a command that may write
 abbrev pub writes : Command → Bool
 writes (Get c) = false
 writes (Set c) = true
 writes (Remove c) = true
+writes (Restore c) = true
 
 -- what a command leaves in its file, by an end
 abbrev pub RanFile : Command → (before after : World) → Finish → Type 0
 RanFile (Get c) before after finish = RanCall false get_reply c.key (before.files c.file) (after.files c.file) finish
 RanFile (Set c) before after finish = RanSet c before after finish
 RanFile (Remove c) before after finish = RanCall true remove_reply c.key (before.files c.file) (after.files c.file) finish
+RanFile (Restore c) before after finish = RanRestore c before after finish
 
--- the statuses of an end without a fault
+-- the statuses of a call's end without a fault
 abbrev pub IsClear : ℕ → Type 0
 IsClear status = (status ≡ 0) ⊎ ((status ≡ 3) ⊎ ((status ≡ 5) ⊎ (status ≡ 6)))
 
+-- the statuses of a command's end without a fault
+abbrev pub IsClearEnd : Command → ℕ → Type 0
+IsClearEnd (Get c) status = IsClear status
+IsClearEnd (Set c) status = IsClear status
+IsClearEnd (Remove c) status = IsClear status
+IsClearEnd (Restore c) status = (status ≡ 0) ⊎ ((status ≡ 3) ⊎ ((status ≡ 5) ⊎ (status ≡ 7)))
+
 -- the file is as an end without a fault leaves it
 abbrev pub Settled : Command → (before after : World) → Type 0
-Settled c before after = (end : Finish) × IsClear end.status × RanFile c before after end
+Settled c before after = (end : Finish) × IsClearEnd c end.status × RanFile c before after end
 
 -- a command whose words were read ends with one of these statuses
-abbrev pub IsRunStatus : ℕ → Type 0
-IsRunStatus status = (status ≡ 4) ⊎ IsClear status
+abbrev pub IsRunStatus : Command → ℕ → Type 0
+IsRunStatus c status = (status ≡ 4) ⊎ IsClearEnd c status
+
+-- a count of faults of the disk of one of the command's files rose
+abbrev pub RoseOf : Command → (old new : List ℕ → ℕ) → Type 0
+RoseOf (Get c) old new = Rose (old c.file) (new c.file)
+RoseOf (Set c) old new = Rose (old c.file) (new c.file)
+RoseOf (Remove c) old new = Rose (old c.file) (new c.file)
+RoseOf (Restore c) old new = Rose (old c.from) (new c.from) ⊎ Rose (old c.to) (new c.to)
 
 -- fields that the status doesn't use are 0
 abbrev pub IsEnd : Finish → Type 0
-IsEnd finish = (finish ≡ ended finish.status) ⊎ ((finish ≡ refused_at 0 finish.place) ⊎ (finish ≡ answered finish.answer))
+IsEnd finish = (finish ≡ ended finish.status) ⊎ ((finish ≡ refused_at 0 finish.place) ⊎ ((finish ≡ exists_at finish.file) ⊎ (finish ≡ answered finish.answer)))

@@ -1,5 +1,5 @@
 -- What the words of a command line ask for.
-use Rattle.std.specs.Prelude.{ℕ, ◌-◌, List, [], ◌∷◌, length, drop, map, slice_index, Bool, ◌&&◌, ◌==◌, nat_lt, nat_le, Option, Some, None, option_map, if◌then◌else◌, String, string_bytes, codes}
+use Rattle.std.specs.Prelude.{ℕ, ◌-◌, List, [], ◌∷◌, length, drop, map, slice_index, Bool, not, ◌&&◌, ◌==◌, nat_lt, nat_le, Option, Some, None, option_map, if◌then◌else◌, String, string_bytes, codes}
 use Rattle.std.specs.Str.{bytes_eq}
 use Rattle.std.specs.declared.alloc.Global.{Global}
 
@@ -12,11 +12,17 @@ pub record KeyWords : Type 0 where
   pub file : List ℕ
   pub key : List ℕ
 
+-- the file that is restored, and the one that is written
+pub record RestoreWords : Type 0 where
+  pub from : List ℕ
+  pub to : List ℕ
+
 -- a command and its operands
 pub data Command : Type 0 where
   Get : KeyWords → Command
   Set : SetWords → Command
   Remove : KeyWords → Command
+  Restore : RestoreWords → Command
 
 abbrev pub words_of : List (String Global) → List (List ℕ)
 words_of words = map (λ w. string_bytes w) words
@@ -53,12 +59,18 @@ abbrev pub set_words : List (List ℕ) → Option SetWords
 set_words (f ∷ k ∷ v ∷ []) = if is_hash_name f && is_key k && is_value v then Some (record { file = f; key = k; value = v }) else None
 set_words words = None
 
--- `get FILE KEY`, `set FILE KEY VALUE`, `remove FILE KEY`
+-- `OLD NEW`, two names
+abbrev pub restore_words : List (List ℕ) → Option RestoreWords
+restore_words (f ∷ t ∷ []) = if is_hash_name f && is_hash_name t && not (bytes_eq f t) then Some (record { from = f; to = t }) else None
+restore_words words = None
+
+-- `get FILE KEY`, `set FILE KEY VALUE`, `remove FILE KEY`, `restore OLD NEW`
 abbrev pub asked : (command : List ℕ) → List (List ℕ) → Option Command
 asked c words =
     if bytes_eq c (codes "get") then option_map Get (key_words words)
     else (if bytes_eq c (codes "set") then option_map Set (set_words words)
-    else (if bytes_eq c (codes "remove") then option_map Remove (key_words words) else None))
+    else (if bytes_eq c (codes "remove") then option_map Remove (key_words words)
+    else (if bytes_eq c (codes "restore") then option_map Restore (restore_words words) else None)))
 
 abbrev pub asked_of : (command : List ℕ) → Option (List (List ℕ)) → Option Command
 asked_of c None = None

@@ -1,19 +1,20 @@
 //! One call on a file.
-ghost use Rattle.std.specs.Prelude.{◌≡◌, ◌⊎◌, ◌-◌, ◌<◌, ◌≤◌, ◌^◌, ◌++◌, ℕ, List, [], length, true, false, Option, IfOk, IfSome, OnOk, OnErr, Some, Err, if◌then◌else◌};
+ghost use Rattle.std.specs.Prelude.{◌≡◌, ◌==◌, ◌⊎◌, ◌-◌, ◌<◌, ◌≤◌, ◌^◌, ◌++◌, ℕ, List, [], length, true, false, Option, IfOk, IfSome, OnOk, OnErr, Some, Err, if◌then◌else◌};
 ghost use Rattle.std.specs.Option.{is_some};
 ghost use Rattle.tk_model.specs.declared.record.Action.TheVariants.{Keep};
 ghost use Rattle.tk_model.specs.declared.record.Group.{Group};
 ghost use Rattle.tk_disk.specs.Crash.{Only};
 ghost use Rattle.tk_disk.specs.Disk.{Rose};
+ghost use Rattle.tk_util.specs.Counts.{HasCause};
 ghost use Rattle.tk_append.specs.Log.{closed_text};
 ghost use Rattle.tk_store.specs.Store.{IsWhole, LeavesSafe};
 ghost use Rattle.tk_util.specs.declared.call.Stop.{Stop as Stopped};
 ghost use Rattle.tk_util.specs.Calls.{Made, NoRoom, RefusedAt, MadeOn, NoRoomOn, StopTells, Spares, IsStill};
-ghost use Rattle.tk_util.specs.Done.{CrashDone};
+ghost use Rattle.tk_util.specs.Done.{CrashDone, counted_answer, CallCounts};
 ghost use Rattle.tk_hash.specs.Hash.{HashStands, HashSafe, HashStood, HashUntouched, hash_disk, hash_head, hash_nature, hash_shown, opening};
 
 use std::alloc::Global;
-use tk_disk::Disk;
+use tk_disk::{Disk, DiskError};
 use tk_hash::HashStore;
 use tk_model::{OpenError, ShardOf};
 use tk_proc::RecordProcessor;
@@ -34,14 +35,40 @@ pub(crate) enum Stop {
     NoMemory,
 }
 
+impl From<DiskError> for Stop {
+    ghost use Rattle.tk_util.specs.Done.{stop_of};
+
+    ghost from_gives = { λ e stop. stop ≡ stop_of e };
+
+    fn from(error: DiskError) -> Stop {
+        match error {
+            DiskError::Fault => Stop::Fault,
+            DiskError::NoMemory => Stop::NoMemory,
+        }
+    }
+}
+
 /// A file after a call, and the call's answer.
 pub(crate) struct Called<D> {
     pub disk: D,
     pub answer: Result<Status, Stop>,
 }
 
+/// What a call that stopped short answers where its disk counted a fault: that fault.
+pub(crate) fn counted<T>(answer: Result<T, Stop>, before: u64, now: u64) -> Result<T, Stop>
+    requires { HasCause Stop.Fault before now answer }
+    ensures answer { result ≡ counted_answer (now == before) answer }
+    ensures counts { CallCounts before now result }
+{
+    match answer {
+        Ok(value) => Ok(value),
+        Err(Stop::Full | Stop::NoMemory) if now != before => Err(Stop::Fault),
+        Err(stop) => Err(stop),
+    }
+}
+
 /// Why a call on a file that was not opened was not made.
-fn unopened(cause: OpenError) -> Stop
+pub(crate) fn unopened(cause: OpenError) -> Stop
     ensures { StopTells cause result }
 {
     match cause {
@@ -106,9 +133,7 @@ fn call_on<D: Disk, P: RecordProcessor>(
     ensures nature { hash_nature store.new ≡ hash_nature store.old }
     ensures told { is_some (hash_shown D.image store.new).map ≡ is_some (hash_shown D.image store.old).map }
     ensures time { D.moment (hash_disk store.old) ≤ D.moment (hash_disk store.new) }
-    ensures kept { OnOk result (D.fault_count (hash_disk store.new) ≡ D.fault_count (hash_disk store.old)) }
-    ensures later { D.fault_count (hash_disk store.old) ≤ D.fault_count (hash_disk store.new) }
-    ensures fault { result ≡ Err Stop.Fault → Rose (D.fault_count (hash_disk store.old)) (D.fault_count (hash_disk store.new)) }
+    ensures cause { HasCause Stop.Fault (D.fault_count (hash_disk store.old)) (D.fault_count (hash_disk store.new)) result }
 {
     let next = store.next_number();
     match run_on(alloc, store, next, key, p) {
@@ -145,9 +170,7 @@ pub(crate) fn run_call<D: Disk, P: RecordProcessor>(
     ensures spared { writable ≡ true → IfSome (D.image disk) (λ f. Spares f (D.may_leave disk) (D.may_leave result.disk)) }
     ensures crash { writable ≡ true → CrashDone result.answer (D.may_leave disk) (D.may_leave result.disk) (D.image result.disk) }
     ensures reads { writable ≡ false → IsStill (D.image disk) (D.image result.disk) (D.may_leave disk) (D.may_leave result.disk) }
-    ensures kept { OnOk result.answer (D.fault_count result.disk ≡ D.fault_count disk) }
-    ensures later { D.fault_count disk ≤ D.fault_count result.disk }
-    ensures fault { result.answer ≡ Err Stop.Fault → Rose (D.fault_count disk) (D.fault_count result.disk) }
+    ensures cause { HasCause Stop.Fault (D.fault_count disk) (D.fault_count result.disk) result.answer }
 {
     let alone = ShardOf { index: 0, of: 1 };
     let mut store = match HashStore::open_file(alloc, disk, writable, LIMIT, alone) {

@@ -3,7 +3,9 @@
 
 mod call;
 mod end;
+mod file;
 mod key;
+mod restore;
 mod run;
 mod set;
 mod words;

@@ -3,11 +3,12 @@ ghost use Rattle.tk_disk.specs.Crash.{Within, Only};
 ghost use Rattle.tk_disk.specs.Disk.{Rose};
 ghost use Rattle.tk_disk.specs.Folder.{NoneOut, or_empty};
 ghost use Rattle.tk_util.specs.Calls.{Spares};
+ghost use Rattle.tk_util.specs.Leaves.{OthersWithin};
 ghost use Rattle.tk_util.specs.Words.{Command, command_of, words_of};
-ghost use Rattle.tk_util.specs.Ran.{Ran, Settled, file_of, writes, IsRunStatus, IsEnd};
+ghost use Rattle.tk_util.specs.Ran.{Ran, Settled, RoseOf, file_of, writes, IsRunStatus, IsEnd};
 
-use crate::key::{run_get, run_remove};
-use crate::set::run_set;
+use crate::file::run_on_file;
+use crate::restore::run_restore;
 use crate::words::{Asked, read_words};
 use std::alloc::Global;
 use tk_disk::Folder;
@@ -29,29 +30,30 @@ pub fn run_util<F: Folder, R: Source, W: Sink>(
         → Ran c (record { files = F.file folder.old; left = R.left source.old; held = W.held out.old }) (record { files = F.file folder.new; left = R.left source.new; held = W.held out.new }) result }
     ensures settled { (c : Command) → command_of (words_of words.now) ≡ Some c → F.tells folder.old ≡ true
         → Settled c (record { files = F.file folder.old; left = R.left source.old; held = W.held out.old }) (record { files = F.file folder.new; left = R.left source.new; held = W.held out.old })
-        ⊎ Rose (F.disk_faults folder.old (file_of c)) (F.disk_faults folder.new (file_of c)) }
+        ⊎ RoseOf c (F.disk_faults folder.old) (F.disk_faults folder.new) }
     ensures spared { (c : Command) → command_of (words_of words.now) ≡ Some c → writes c ≡ true → F.tells folder.old ≡ true
         → Spares (or_empty (F.file folder.old (file_of c))) (F.leaves folder.old (file_of c)) (F.leaves folder.new (file_of c)) }
-    ensures still { (c : Command) → command_of (words_of words.now) ≡ Some c → (writes c ≡ false) ⊎ (result.status ≡ 3)
+    ensures still { (c : Command) → command_of (words_of words.now) ≡ Some c → (writes c ≡ false) ⊎ ((result.status ≡ 3) ⊎ (result.status ≡ 7))
         → Within (F.leaves folder.old (file_of c)) (F.leaves folder.new (file_of c)) }
     ensures durable { (c : Command) → command_of (words_of words.now) ≡ Some c → writes c ≡ true → (result.status ≡ 0) ⊎ (result.status ≡ 6) → F.tells folder.old ≡ true
         → IfSome (F.file folder.new (file_of c)) (λ f. Only f (F.leaves folder.new (file_of c))) }
+    ensures others { (c : Command) → command_of (words_of words.now) ≡ Some c → OthersWithin (file_of c) (F.leaves folder.old) (F.leaves folder.new) }
     ensures left { R.left source.new ≡ R.left source.old }
     ensures fields { IsEnd result }
-    ensures status { (c : Command) → command_of (words_of words.now) ≡ Some c → IsRunStatus result.status }
+    ensures status { (c : Command) → command_of (words_of words.now) ≡ Some c → IsRunStatus c result.status }
     ensures clean { (c : Command) → command_of (words_of words.now) ≡ Some c → result.status ≡ 0
         → (F.fault_count folder.new ≡ F.fault_count folder.old) × (F.disk_faults folder.new (file_of c) ≡ F.disk_faults folder.old (file_of c)) × (W.fault_count out.new ≡ W.fault_count out.old) }
     ensures fault { result.status ≡ 4 → Rose (F.fault_count folder.old) (F.fault_count folder.new)
         ⊎ (((name : List ℕ) × Rose (F.disk_faults folder.old name) (F.disk_faults folder.new name)) ⊎ Rose (W.fault_count out.old) (W.fault_count out.new)) }
-    ensures met { result.status ≢ 3 → result.status ≢ 4 → F.fault_count folder.new ≡ F.fault_count folder.old }
+    ensures met { result.status ≢ 3 → result.status ≢ 4 → result.status ≢ 7 → F.fault_count folder.new ≡ F.fault_count folder.old }
+    ensures disks_met { result.status ≢ 3 → result.status ≢ 4 → result.status ≢ 7 → (name : List ℕ) → F.disk_faults folder.new name ≡ F.disk_faults folder.old name }
     ensures tells { F.tells folder.new ≡ F.tells folder.old }
     ensures closed { NoneOut (F.is_out folder.new) }
 {
     let _ = source;
     match read_words(words) {
         None => Finish::with(1),
-        Some(Asked::Get(get)) => run_get(alloc, get, folder, out),
-        Some(Asked::Set(set)) => run_set(alloc, set, folder),
-        Some(Asked::Remove(remove)) => run_remove(alloc, remove, folder),
+        Some(Asked::OnFile(command)) => run_on_file(alloc, command, folder, out),
+        Some(Asked::Restore(restore)) => run_restore(alloc, restore, folder),
     }
 }

@@ -1,5 +1,5 @@
 use crate::tests::words;
-use crate::words::{Asked, KeyOperands, SetOperands, read_words};
+use crate::words::{Asked, FileCommand, KeyOperands, RestoreOperands, SetOperands, read_words};
 use std::test::Fail;
 
 #[test]
@@ -9,7 +9,10 @@ fn get_has_a_file_and_a_key(rt: HostRuntime) -> Result<(), Fail> {
         file: "x.tkh",
         key: b"a",
     };
-    assert_eq!(rt; read_words(&get), Some(Asked::Get(operands)));
+    assert_eq!(rt;
+        read_words(&get),
+        Some(Asked::OnFile(FileCommand::Get(operands)))
+    );
     Ok(())
 }
 
@@ -21,7 +24,10 @@ fn set_has_a_value_too(rt: HostRuntime) -> Result<(), Fail> {
         key: b"a",
         value: b"1",
     };
-    assert_eq!(rt; read_words(&set), Some(Asked::Set(operands)));
+    assert_eq!(rt;
+        read_words(&set),
+        Some(Asked::OnFile(FileCommand::Set(operands)))
+    );
     Ok(())
 }
 
@@ -32,7 +38,46 @@ fn remove_has_a_file_and_a_key(rt: HostRuntime) -> Result<(), Fail> {
         file: "x.tkh",
         key: b"a",
     };
-    assert_eq!(rt; read_words(&remove), Some(Asked::Remove(operands)));
+    assert_eq!(rt;
+        read_words(&remove),
+        Some(Asked::OnFile(FileCommand::Remove(operands)))
+    );
+    Ok(())
+}
+
+#[test]
+fn restore_has_two_files(rt: HostRuntime) -> Result<(), Fail> {
+    let restore = words(rt.alloc(), &["restore", "x.tkh", "y.tkh"])?;
+    let operands = RestoreOperands {
+        from: "x.tkh",
+        to: "y.tkh",
+    };
+    assert_eq!(rt; read_words(&restore), Some(Asked::Restore(operands)));
+    let behind = words(rt.alloc(), &["restore", "--", "-x.tkh", "y.tkh"])?;
+    let operands = RestoreOperands {
+        from: "-x.tkh",
+        to: "y.tkh",
+    };
+    assert_eq!(rt; read_words(&behind), Some(Asked::Restore(operands)));
+    Ok(())
+}
+
+#[test]
+fn no_operands_of_restore(rt: HostRuntime) -> Result<(), Fail> {
+    let alloc = rt.alloc();
+    for texts in [
+        ["restore", "x.tkh", "x.tkh"],
+        ["restore", "x.tkh", "y.tkt"],
+        ["restore", "x.tkt", "y.tkh"],
+        ["restore", "--shards", "x.tkh"],
+    ] {
+        let restore = words(alloc, &texts)?;
+        assert!(rt; read_words(&restore).is_none());
+    }
+    let one = words(alloc, &["restore", "x.tkh"])?;
+    assert!(rt; read_words(&one).is_none());
+    let three = words(alloc, &["restore", "x.tkh", "y.tkh", "z.tkh"])?;
+    assert!(rt; read_words(&three).is_none());
     Ok(())
 }
 
@@ -43,7 +88,10 @@ fn a_key_behind_the_end_of_options(rt: HostRuntime) -> Result<(), Fail> {
         file: "x.tkh",
         key: b"-k",
     };
-    assert_eq!(rt; read_words(&get), Some(Asked::Get(operands)));
+    assert_eq!(rt;
+        read_words(&get),
+        Some(Asked::OnFile(FileCommand::Get(operands)))
+    );
     Ok(())
 }
 

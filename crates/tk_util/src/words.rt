@@ -1,6 +1,6 @@
 ghost use Rattle.std.specs.Prelude.{◌≡◌, ◌≢◌, [], ◌∷◌, ◌≤◌, ◌<◌, ◌^◌, length, MatchOption, IfSome, Some, None};
-ghost use Rattle.tk_util.specs.Words.{command_of, words_of, operands, key_words, set_words, is_option, is_hash_name, is_key, is_value};
-ghost use Rattle.tk_util.specs.Asked.{said, key_said, set_said, all_of, IsWithin};
+ghost use Rattle.tk_util.specs.Words.{command_of, words_of, operands, key_words, set_words, restore_words, is_option, is_hash_name, is_key, is_value};
+ghost use Rattle.tk_util.specs.Asked.{said, key_said, set_said, restore_said, all_of, IsWithin};
 
 /// A file and a key in it.
 #[derive(Clone, Copy, Debug, PartialEq, Eq)]
@@ -17,12 +17,50 @@ pub(crate) struct SetOperands<'a> {
     pub value: &'a [u8],
 }
 
-/// A command and its operands.
+/// The file that is restored, and the one that is written.
 #[derive(Clone, Copy, Debug, PartialEq, Eq)]
-pub(crate) enum Asked<'a> {
+pub(crate) struct RestoreOperands<'a> {
+    pub from: &'a str,
+    pub to: &'a str,
+}
+
+/// A command on one file, with its operands.
+#[derive(Clone, Copy, Debug, PartialEq, Eq)]
+pub(crate) enum FileCommand<'a> {
     Get(KeyOperands<'a>),
     Set(SetOperands<'a>),
     Remove(KeyOperands<'a>),
+}
+
+/// A command with its operands.
+#[derive(Clone, Copy, Debug, PartialEq, Eq)]
+pub(crate) enum Asked<'a> {
+    OnFile(FileCommand<'a>),
+    Restore(RestoreOperands<'a>),
+}
+
+impl<'a> FileCommand<'a> {
+    ghost use Rattle.std.specs.Prelude.{◌≡◌};
+    ghost use Rattle.tk_util.specs.Asked.{file_said};
+    ghost use Rattle.tk_util.specs.Ran.{file_of, creates};
+
+    /// The name of the command's file.
+    pub(crate) fn file(self) -> &'a str
+        ensures { result.now ≡ file_of (file_said self.entry) }
+    {
+        match self {
+            FileCommand::Get(get) => get.file,
+            FileCommand::Set(set) => set.file,
+            FileCommand::Remove(remove) => remove.file,
+        }
+    }
+
+    /// Whether the command makes an absent file.
+    pub(crate) fn creates(self) -> bool
+        ensures { result ≡ creates (file_said self.entry) }
+    {
+        matches!(self, FileCommand::Set(_))
+    }
 }
 
 /// The words before `--` and those behind it.
@@ -80,14 +118,11 @@ fn operands_of(words: &[String]) -> Option<Operands<'_>>
 
 /// Two operands, of any bytes.
 #[tactic(auto, using(crate::proofs::WordSteps::length_all))]
-fn two_of(operands: Operands<'_>) -> Option<KeyOperands<'_>>
-    ensures { MatchOption result (length (all_of operands.entry) ≢ 2) (λ k. all_of operands.entry ≡ k.file.now ∷ k.key.now ∷ []) }
+fn two_of(operands: Operands<'_>) -> Option<(&str, &str)>
+    ensures { MatchOption result (length (all_of operands.entry) ≢ 2) (λ two. all_of operands.entry ≡ two.0.now ∷ two.1.now ∷ []) }
 {
     match (operands.before, operands.behind) {
-        ([file, key], []) | ([file], [key]) | ([], [file, key]) => Some(KeyOperands {
-            file: file.as_str(),
-            key: key.as_str().as_bytes(),
-        }),
+        ([one, two], []) | ([one], [two]) | ([], [one, two]) => Some((one.as_str(), two.as_str())),
         _ => None,
     }
 }
@@ -98,9 +133,10 @@ fn key_operands(operands: Operands<'_>) -> Option<KeyOperands<'_>>
     ensures fits { IfSome result (λ k. length k.key.now < 2 ^ 16) }
     ensures read { MatchOption result (key_words (all_of operands.entry) ≡ None) (λ k. key_words (all_of operands.entry) ≡ Some (key_said k)) }
 {
-    let asked = two_of(operands)?;
-    if is_hash_name(asked.file.as_bytes()) && is_key(asked.key) {
-        Some(asked)
+    let (file, word) = two_of(operands)?;
+    let key = word.as_bytes();
+    if is_hash_name(file.as_bytes()) && is_key(key) {
+        Some(KeyOperands { file, key })
     } else {
         None
     }
@@ -138,6 +174,20 @@ fn set_operands(operands: Operands<'_>) -> Option<SetOperands<'_>>
     }
 }
 
+/// The operands of `restore`.
+#[tactic(auto, using(crate::proofs::WordSteps::names_alone))]
+fn restore_operands(operands: Operands<'_>) -> Option<RestoreOperands<'_>>
+    ensures differ { IfSome result (λ r. r.from.now ≢ r.to.now) }
+    ensures read { MatchOption result (restore_words (all_of operands.entry) ≡ None) (λ r. restore_words (all_of operands.entry) ≡ Some (restore_said r)) }
+{
+    let (from, to) = two_of(operands)?;
+    if is_hash_name(from.as_bytes()) && is_hash_name(to.as_bytes()) && from != to {
+        Some(RestoreOperands { from, to })
+    } else {
+        None
+    }
+}
+
 /// Reads the words of a command.
 pub(crate) fn read_words(words: &[String]) -> Option<Asked<'_>>
     ensures fits { IfSome result IsWithin }
@@ -146,9 +196,10 @@ pub(crate) fn read_words(words: &[String]) -> Option<Asked<'_>>
     let (command, words) = words.split_first()?;
     let operands = operands_of(words)?;
     match command.as_str() {
-        "get" => Some(Asked::Get(key_operands(operands)?)),
-        "set" => Some(Asked::Set(set_operands(operands)?)),
-        "remove" => Some(Asked::Remove(key_operands(operands)?)),
+        "get" => Some(Asked::OnFile(FileCommand::Get(key_operands(operands)?))),
+        "set" => Some(Asked::OnFile(FileCommand::Set(set_operands(operands)?))),
+        "remove" => Some(Asked::OnFile(FileCommand::Remove(key_operands(operands)?))),
+        "restore" => Some(Asked::Restore(restore_operands(operands)?)),
         _ => None,
     }
 }

@@ -77,6 +77,10 @@ fn tell(rt: &HostRuntime, finish: &Finish) -> io::Result<()> {
         }
         5 => eprintln!(rt; "no memory"),
         6 => eprintln!(rt; "answer {}", answer_of(finish.answer)),
+        7 => {
+            let file = finish.file;
+            eprintln!(rt; "file {file} exists")
+        }
         _ => eprintln!(rt; "fault"),
     }
 }

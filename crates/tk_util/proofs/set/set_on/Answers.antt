@@ -1,10 +1,10 @@
 use Rattle.tk_util.proofs.Crashing.{crash_behind}
-use Rattle.tk_util.proofs.SetEndings.{moved}
+use Rattle.tk_util.proofs.SetEndings.{set_moved}
 use Rattle.tk_util.proofs.Sparing.{spares_left, spares_moved}
 use Rattle.tk_util.proofs.set.set_on.Goals as goal
 
-pub returns-in-Ok-false-clause-more : goal.returns-in-Ok-false-clause-more
-returns-in-Ok-false-clause-more g c = moved _ _ _ c.set_fresh.ensures.kept c.set_more.ensures.call
+pub returns-in-Ok-false-clause-call : goal.returns-in-Ok-false-clause-call
+returns-in-Ok-false-clause-call g c = set_moved _ _ _ _ _ _ (c.in-Ok-false.ensures.full c.in-Ok-false.field-0-test) c.set_fresh.ensures.kept c.set_more.ensures.call
 
 pub returns-in-Ok-false-clause-spared : goal.returns-in-Ok-false-clause-spared
 returns-in-Ok-false-clause-spared g c = spares_moved _ _ _ _ _ c.set_fresh.ensures.kept c.set_fresh.ensures.left c.set_more.ensures.spared

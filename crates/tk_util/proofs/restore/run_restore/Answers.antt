@@ -1,0 +1,23 @@
+use Rattle.std.proofs.Common.{◌≡◌, ℕ, true, List, refl, sym, ◌∙◌, ap, subst, inr}
+use Rattle.std.specs.Prelude.{Option, None}
+use Rattle.tk_disk.specs.Disk.{Rose}
+use Rattle.tk_disk.specs.Folder.{or_empty}
+use Rattle.tk_util.specs.Restoring.{WroteNew, IsWriteEnd}
+use Rattle.tk_util.proofs.OnFolder.{leaves_after}
+use Rattle.tk_util.proofs.Restoring.{restored_settled, unread_settled, only_to, settled_at}
+use Rattle.tk_util.proofs.restore.run_restore.Goals as goal
+
+pub returns-in-Err-clause-settled : goal.returns-in-Err-clause-settled
+returns-in-Err-clause-settled g c = λ left held tells.
+    unread_settled _ _ _ (record { others = λ m ne. c.read_from.ensures.files tells m; left = refl; held = refl }) (c.read_from.ensures.files tells _)
+
+pub returns-in-Ok-clause-settled : goal.returns-in-Ok-clause-settled
+returns-in-Ok-clause-settled g c = λ left held tells.
+    restored_settled _ _ _ (record { others = only_to _ (g.F.Folder.file c.read_from.new.folder) _ _ (c.read_from.ensures.files tells) c.write_to.ensures.others; left = refl; held = refl })
+    (c.in-Ok.ensures.read tells).1
+    (settled_at _ _ _ _ (c.read_from.ensures.files tells _) (c.write_to.ensures.settled (c.read_from.ensures.tells ∙ tells) _ (c.in-Ok.ensures.read tells).0))
+    (λ rose. inr (subst (λ (k : ℕ). Rose k (g.F.Folder.disk_faults c.write_to.new.folder c.args.restore.to.now)) (c.in-Ok.ensures.disks_met _) rose))
+
+pub returns-in-Ok-clause-crash : goal.returns-in-Ok-clause-crash
+returns-in-Ok-clause-crash g c =
+    leaves_after _ (g.F.Folder.tells c.read_from.new.folder) _ _ (g.F.Folder.file c.read_from.new.folder c.args.restore.to.now) _ _ (g.F.Folder.leaves c.read_from.new.folder) _ _ c.read_from.ensures.tells (λ tells. c.read_from.ensures.files tells _) c.read_from.ensures.crash c.write_to.ensures.crash

@@ -1,0 +1,46 @@
+use Rattle.std.proofs.Common.{ℕ, refl, ◌∙◌, subst, inl, inr}
+use Rattle.tk_disk.specs.Disk.{Rose}
+use Rattle.tk_status.specs.Finish.{ended}
+use Rattle.tk_util.proofs.Endings.{not_status, rose_moved}
+use Rattle.tk_util.proofs.OnFolder.{wrote_leaves, fault_counted}
+use Rattle.tk_util.proofs.Restoring.{nothing_settled, wrote_settled, counted_true, write_stopped}
+use Rattle.tk_util.proofs.restore.write_to.Goals as goal
+
+pub returns-in-Err-clause-settled : goal.returns-in-Err-clause-settled
+returns-in-Err-clause-settled g c = λ tells image from. nothing_settled image _ _ c.in-Err.ensures.same
+
+pub returns-in-Ok-given-clause-crash : goal.returns-in-Ok-given-clause-crash
+returns-in-Ok-given-clause-crash g c =
+    wrote_leaves (g.F.Folder.tells c.args.folder.now) c.args.name.now _ _ (g.F.Folder.leaves c.args.folder.now) (g.F.Folder.leaves c.take_disk.new.folder) (g.F.Folder.leaves c.give-given.new.self) c.with.result
+    (g.F.D.Disk.may_leave c.in-Ok.disk) (g.F.D.Disk.may_leave c.write_new-written.new.to) (g.F.D.Disk.image c.in-Ok.disk) (g.F.D.Disk.image c.write_new-written.new.to) c.in-Ok.ensures.image (λ tells. c.give-given.ensures.here (c.take_disk.ensures.tells ∙ tells))
+    c.write_new-written.ensures.unwritten c.in-Ok.ensures.crash.crash c.give-given.ensures.crash.crash c.take_disk.ensures.others_crash (λ m ne. (c.give-given.ensures.others_crash m ne).crash)
+    (not_status _ (ended 0) 3 c.with.ensures (λ h. cc h), not_status _ (ended 0) 7 c.with.ensures (λ h. cc h))
+    (λ either. counted_true _ _ c.write_new-written.result c.counted-written.result c.counted-written.ensures.answer c.in-Ok-true.is c.in-Ok-true.field-0-test c.write_new-written.ensures.durable)
+
+pub returns-in-Err-given-clause-settled : goal.returns-in-Err-given-clause-settled
+returns-in-Err-given-clause-settled g c = λ tells image from.
+    wrote_settled image _ _ (g.F.D.Disk.image c.write_new-written.new.to) (c.give-given.ensures.here (c.take_disk.ensures.tells ∙ tells)) (g.F.D.Disk.image c.in-Ok.disk) _ c.write_new-written.result c.counted-written.result (c.in-Ok.ensures.image tells)
+    (c.write_new-written.ensures.written image from) c.counted-written.ensures.answer
+    (λ e. rose_moved _ _ _ _ c.in-Ok.ensures.count c.give-given.ensures.count (subst (λ (k : ℕ). Rose k (g.F.D.Disk.fault_count c.write_new-written.new.to)) c.faults-faults.ensures (subst (λ (k : ℕ). Rose c.faults-faults.result k) c.faults.ensures (fault_counted _ _ c.counted-written.result c.counted-written.ensures.counts e))))
+
+pub returns-in-Err-written-clause-settled : goal.returns-in-Err-written-clause-settled
+returns-in-Err-written-clause-settled g c = λ tells image from.
+    wrote_settled image _ _ (g.F.D.Disk.image c.write_new-written.new.to) (c.give-given.ensures.here (c.take_disk.ensures.tells ∙ tells)) (g.F.D.Disk.image c.in-Ok.disk) _ c.write_new-written.result c.counted-written.result (c.in-Ok.ensures.image tells)
+    (c.write_new-written.ensures.written image from) c.counted-written.ensures.answer
+    (λ e. rose_moved _ _ _ _ c.in-Ok.ensures.count c.give-given.ensures.count (subst (λ (k : ℕ). Rose k (g.F.D.Disk.fault_count c.write_new-written.new.to)) c.faults-faults.ensures (subst (λ (k : ℕ). Rose c.faults-faults.result k) c.faults.ensures (fault_counted _ _ c.counted-written.result c.counted-written.ensures.counts e))))
+
+pub returns-in-Err-given-clause-crash : goal.returns-in-Err-given-clause-crash
+returns-in-Err-given-clause-crash g c =
+    wrote_leaves (g.F.Folder.tells c.args.folder.now) c.args.name.now _ _ (g.F.Folder.leaves c.args.folder.now) (g.F.Folder.leaves c.take_disk.new.folder) (g.F.Folder.leaves c.give-given.new.self) c.with-in-Err-given.result
+    (g.F.D.Disk.may_leave c.in-Ok.disk) (g.F.D.Disk.may_leave c.write_new-written.new.to) (g.F.D.Disk.image c.in-Ok.disk) (g.F.D.Disk.image c.write_new-written.new.to) c.in-Ok.ensures.image (λ tells. c.give-given.ensures.here (c.take_disk.ensures.tells ∙ tells))
+    c.write_new-written.ensures.unwritten c.in-Ok.ensures.crash.crash c.give-given.ensures.crash.crash c.take_disk.ensures.others_crash (λ m ne. (c.give-given.ensures.others_crash m ne).crash)
+    (not_status _ (ended 4) 3 c.with-in-Err-given.ensures (λ h. cc h), not_status _ (ended 4) 7 c.with-in-Err-given.ensures (λ h. cc h))
+    (λ either. absurd (elim either [ inl e ↦ not_status _ (ended 4) 0 c.with-in-Err-given.ensures (λ h. cc h) e | inr e ↦ not_status _ (ended 4) 6 c.with-in-Err-given.ensures (λ h. cc h) e ]))
+
+pub returns-in-Err-written-clause-crash : goal.returns-in-Err-written-clause-crash
+returns-in-Err-written-clause-crash g c =
+    let other = write_stopped _ c.write_new-written.result c.counted-written.result c.in-Err-written.stop c.give-given.result _ c.write_new-written.ensures.stops c.counted-written.ensures.answer c.in-Err-written.is c.end_of-in-Err-written.ensures in
+    wrote_leaves (g.F.Folder.tells c.args.folder.now) c.args.name.now _ _ (g.F.Folder.leaves c.args.folder.now) (g.F.Folder.leaves c.take_disk.new.folder) (g.F.Folder.leaves c.give-given.new.self) c.end_of-in-Err-written.result
+    (g.F.D.Disk.may_leave c.in-Ok.disk) (g.F.D.Disk.may_leave c.write_new-written.new.to) (g.F.D.Disk.image c.in-Ok.disk) (g.F.D.Disk.image c.write_new-written.new.to) c.in-Ok.ensures.image (λ tells. c.give-given.ensures.here (c.take_disk.ensures.tells ∙ tells))
+    c.write_new-written.ensures.unwritten c.in-Ok.ensures.crash.crash c.give-given.ensures.crash.crash c.take_disk.ensures.others_crash (λ m ne. (c.give-given.ensures.others_crash m ne).crash)
+    (other 3 (λ h. cc h) (λ h. cc h), other 7 (λ h. cc h) (λ h. cc h)) (λ either. absurd (elim either [ inl e ↦ other 0 (λ h. cc h) (λ h. cc h) e | inr e ↦ other 6 (λ h. cc h) (λ h. cc h) e ]))
