@@ -1,4 +1,5 @@
 -- One call on a file: the file that it leaves, and the room for it.
+use Rattle.tk_disk.specs.Past.{Past}
 use Rattle.std.proofs.Common.{◌≡◌, ℕ, ◌+◌, ◌-◌, ◌≤◌, ◌^◌, Bool, true, false, inl, inr, List, [], ◌∷◌, ◌++◌, length, refl, sym, ◌∙◌, ap, subst, arith, if◌then◌else◌}
 use Rattle.std.specs.Prelude.{Option, Some, None, IfSome, slice_index, sum_by, nat_lt, Result, Ok, Err, IfOk, IsErrOf, min}
 use Rattle.std.specs.Option.{is_some, option_map}
@@ -76,8 +77,8 @@ map_told None g y is = tt
 map_told (Some f) g y is = ap Some is
 
 -- the records of a store that was opened
-pub map_is : {D : Type 0} (image : D → Option (List ℕ)) (may_leave : D → List ℕ → Type 0) (s : HashStore D) (groups : List Group) → HashStands image may_leave s (opening groups) [] 0 → IfSome (image (hash_disk s)) (λ f. map_in image s ≡ Some (replay Hash groups []))
-map_is image may_leave s groups st = map_told (image (hash_disk s)) (λ f. replay Hash (groups_in (hash_head s) f) []) (replay Hash groups []) (hash_replays image may_leave s (opening groups) [] 0 st)
+pub map_is : {D : Type 0} (image : D → Option (List ℕ)) (may_leave : D → List ℕ → Type 0) (past : D → Past) (s : HashStore D) (groups : List Group) → HashStands image may_leave past s (opening groups) [] 0 → IfSome (image (hash_disk s)) (λ f. map_in image s ≡ Some (replay Hash groups []))
+map_is image may_leave past s groups st = map_told (image (hash_disk s)) (λ f. replay Hash (groups_in (hash_head s) f) []) (replay Hash groups []) (hash_replays image may_leave past s (opening groups) [] 0 st)
 
 -- what is known of the records, where a disk tells them
 pub told_map : (o : Option (List ℕ)) (M : Option (List Pair)) (m : List Pair) (P : List Pair → Type 0) (R : Type 0) → IfSome o (λ f. M ≡ Some m) → IfSome M P → (P m → R) → IfSome o (λ f. R)
@@ -117,8 +118,8 @@ over_is T image s (c ∷ cs) a n l size e limit (inl x) =
 over_is T image s (c ∷ cs) a n l size e limit (inr x) = absurd x
 
 -- the file is as long as the store says
-size_is : {D : Type 0} (image : D → Option (List ℕ)) (may_leave : D → List ℕ → Type 0) (s : HashStore D) (groups : List Group) → HashStands image may_leave s (opening groups) [] 0 → length (closed_text (hash_head s) groups s.next) ≡ log_end s.log
-size_is image may_leave s groups st =
+size_is : {D : Type 0} (image : D → Option (List ℕ)) (may_leave : D → List ℕ → Type 0) (past : D → Past) (s : HashStore D) (groups : List Group) → HashStands image may_leave past s (opening groups) [] 0 → length (closed_text (hash_head s) groups s.next) ≡ log_end s.log
+size_is image may_leave past s groups st =
     length-file_text (hash_head s) groups (length (replay Hash groups [])) s.next
     ∙ (ap (λ (l : List Group). end_of (base_of (hash_head s).p) (bodies_of l)) (ap groups_held st.held ∙ sym (append-nil st.groups)) ∙ sym st.end_is)
 
@@ -133,27 +134,27 @@ kept_on image s t u groups number R same numbered told file go =
     (ap (λ (n : Nature). n.header) same) (ap (λ (n : Nature). n.next) same) numbered))) file
 
 -- what a call that was made says of the records before it
-abbrev pub Told : {D P : Type 0} (image : D → Option (List ℕ)) (may_leave : D → List ℕ → Type 0) (acts : P → List ℕ → Option (List ℕ) → Action) (turns : P → List ℕ → Option (List ℕ) → P) (s t : HashStore D) (key : List ℕ) (p q : P) (number : ℕ) (status : Status) → List Pair → Type 0
-Told image may_leave acts turns s t key p q number status m =
+abbrev pub Told : {D P : Type 0} (image : D → Option (List ℕ)) (may_leave : D → List ℕ → Type 0) (past : D → Past) (acts : P → List ℕ → Option (List ℕ) → Action) (turns : P → List ℕ → Option (List ℕ) → P) (s t : HashStore D) (key : List ℕ) (p q : P) (number : ℕ) (status : Status) → List Pair → Type 0
+Told image may_leave past acts turns s t key p q number status m =
     (status ≡ short_status (acts p key (find key m))) × (q ≡ turns p key (find key m))
     × TellsFullOfChanges {T = Status} (hash_nature s) (hash_shown image s) (call_changes acts p key m) (Ok status)
     × (map_in image t ≡ Some (touched Hash key (short (acts p key (find key m))) m))
-    × ((first : First) (since : List Group) (hard : ℕ) → HashStands image may_leave s first since hard → HashStands image may_leave t first (since ++ group_of number (call_changes acts p key m)) hard)
+    × ((first : First) (since : List Group) (hard : ℕ) → HashStands image may_leave past s first since hard → HashStands image may_leave past t first (since ++ group_of number (call_changes acts p key m)) hard)
 
 -- a call was made, and the store then closed
-pub made_on : {D P : Type 0} (image : D → Option (List ℕ)) (may_leave : D → List ℕ → Type 0) (acts : P → List ℕ → Option (List ℕ) → Action) (turns : P → List ℕ → Option (List ℕ) → P) (s t u : HashStore D) (key : List ℕ) (p q : P) (groups : List Group) (number closes : ℕ) (status : Status)
-    → HashStands image may_leave s (opening groups) [] 0 → IfSome (map_in image s) (Told image may_leave acts turns s t key p q number status)
+pub made_on : {D P : Type 0} (image : D → Option (List ℕ)) (may_leave : D → List ℕ → Type 0) (past : D → Past) (acts : P → List ℕ → Option (List ℕ) → Action) (turns : P → List ℕ → Option (List ℕ) → P) (s t u : HashStore D) (key : List ℕ) (p q : P) (groups : List Group) (number closes : ℕ) (status : Status)
+    → HashStands image may_leave past s (opening groups) [] 0 → IfSome (map_in image s) (Told image may_leave past acts turns s t key p q number status)
     → hash_nature t ≡ hash_nature s → number ≡ s.next → (hash_nature s).limit ≡ 2 ^ 40 → (s.writable ≡ true → closes ≡ s.next + 1)
-    → ((since : List Group) → HashStands image may_leave t (opening groups) since 0 → IfSome (image (hash_disk t)) (λ f. image (hash_disk u) ≡ Some (if t.writable then closed_text (hash_head t) (groups ++ since) closes else closed_text (hash_head t) groups t.next)))
+    → ((since : List Group) → HashStands image may_leave past t (opening groups) since 0 → IfSome (image (hash_disk t)) (λ f. image (hash_disk u) ≡ Some (if t.writable then closed_text (hash_head t) (groups ++ since) closes else closed_text (hash_head t) groups t.next)))
     → IfSome (image (hash_disk s)) (λ f. MadeOn acts turns (hash_head s) groups s.next s.writable key p q (image (hash_disk u)) status)
-made_on image may_leave acts turns s t u key p q groups number closes status st said same numbered limit closed file =
+made_on image may_leave past acts turns s t u key p q groups number closes status st said same numbered limit closed file =
     let m : List Pair = replay Hash groups [] in
-    told_map (image (hash_disk s)) (map_in image s) m (Told image may_leave acts turns s t key p q number status) _ (map_is image may_leave s groups st) said (λ x.
+    told_map (image (hash_disk s)) (map_in image s) m (Told image may_leave past acts turns s t key p q number status) _ (map_is image may_leave past s groups st) said (λ x.
     let after = known_map _ _ _ _ x.3 (file _ (x.4 (opening groups) [] 0 st)) in
     record {
       status_is = x.0;
       turned = x.1;
-      room = room_is image s (call_changes acts p key m) status (length (closed_text (hash_head s) groups s.next)) (size_is image may_leave s groups st) limit x.2;
+      room = room_is image s (call_changes acts p key m) status (length (closed_text (hash_head s) groups s.next)) (size_is image may_leave past s groups st) limit x.2;
       after_is = after ∙ ap Some (file_after t.writable s.writable (hash_head t) (hash_head s) groups
           (group_of number (call_changes acts p key m)) (group_of s.next (call_changes acts p key m)) t.next s.next closes
           (ap (λ (n : Nature). n.writable) same) (ap (λ (n : Nature). n.header) same) (ap (λ (n : Nature). n.next) same) closed
@@ -161,17 +162,17 @@ made_on image may_leave acts turns s t u key p q groups number closes status st 
     })
 
 -- there was no room for a call
-pub no_room_on : {D P : Type 0} (image : D → Option (List ℕ)) (may_leave : D → List ℕ → Type 0) (acts : P → List ℕ → Option (List ℕ) → Action) (s u : HashStore D) (key : List ℕ) (p : P) (groups : List Group) (e : StoreError) (a n l : ℕ) → e ≡ errors.Full a n l
-    → HashStands image may_leave s (opening groups) [] 0 → (hash_nature s).limit ≡ 2 ^ 40
+pub no_room_on : {D P : Type 0} (image : D → Option (List ℕ)) (may_leave : D → List ℕ → Type 0) (past : D → Past) (acts : P → List ℕ → Option (List ℕ) → Action) (s u : HashStore D) (key : List ℕ) (p : P) (groups : List Group) (e : StoreError) (a n l : ℕ) → e ≡ errors.Full a n l
+    → HashStands image may_leave past s (opening groups) [] 0 → (hash_nature s).limit ≡ 2 ^ 40
     → IfSome (map_in image s) (λ m. TellsFullOfChanges {T = Status} (hash_nature s) (hash_shown image s) (call_changes acts p key m) (Err e))
     → IfSome (image (hash_disk s)) (λ f. image (hash_disk u) ≡ Some (closed_text (hash_head s) groups s.next))
     → IfSome (image (hash_disk s)) (λ f. NoRoomOn acts (hash_head s) groups s.next key p (image (hash_disk u)))
-no_room_on image may_leave acts s u key p groups e a n l is st limit full after =
+no_room_on image may_leave past acts s u key p groups e a n l is st limit full after =
     let m : List Pair = replay Hash groups [] in
     both_told (image (hash_disk s)) _ _ _ after
-    (told_map (image (hash_disk s)) (map_in image s) m (λ x. TellsFullOfChanges {T = Status} (hash_nature s) (hash_shown image s) (call_changes acts p key x) (Err e)) _ (map_is image may_leave s groups st) full (λ x. x))
+    (told_map (image (hash_disk s)) (map_in image s) m (λ x. TellsFullOfChanges {T = Status} (hash_nature s) (hash_shown image s) (call_changes acts p key x) (Err e)) _ (map_is image may_leave past s groups st) full (λ x. x))
     (λ kept x. record {
-      full = over_is Status image s (call_changes acts p key m) a n l (length (closed_text (hash_head s) groups s.next)) (size_is image may_leave s groups st) limit
+      full = over_is Status image s (call_changes acts p key m) a n l (length (closed_text (hash_head s) groups s.next)) (size_is image may_leave past s groups st) limit
           (subst (λ (y : StoreError). TellsFullOfChanges {T = Status} (hash_nature s) (hash_shown image s) (call_changes acts p key m) (Err y)) is x);
       after_is = kept;
     })
@@ -208,28 +209,28 @@ no_place None answer P taken = tt
 no_place (Some f) answer P taken = λ place is. absurd (taken place is)
 
 -- the groups of a store that was opened, with the file that it was opened on
-abbrev pub Opened : {D : Type 0} (image : D → Option (List ℕ)) (may_leave : D → List ℕ → Type 0) → HashStore D → Option (List ℕ) → Type 0
-Opened image may_leave s a = (groups : List Group) × HashStands image may_leave s (opening groups) [] 0 × IfSome a (λ f. f ≡ closed_text (hash_head s) groups s.next)
+abbrev pub Opened : {D : Type 0} (image : D → Option (List ℕ)) (may_leave : D → List ℕ → Type 0) (past : D → Past) → HashStore D → Option (List ℕ) → Type 0
+Opened image may_leave past s a = (groups : List Group) × HashStands image may_leave past s (opening groups) [] 0 × IfSome a (λ f. f ≡ closed_text (hash_head s) groups s.next)
 
 -- a call on the file that was opened
-pub made_at : {D P : Type 0} (image : D → Option (List ℕ)) (may_leave : D → List ℕ → Type 0) (acts : P → List ℕ → Option (List ℕ) → Action) (turns : P → List ℕ → Option (List ℕ) → P) (a : Option (List ℕ)) (s : HashStore D) (u v : D) (w : Bool) (key : List ℕ) (p q : P) (answer : Result Status Stop)
-    → IfSome a (λ f. first_fault (1 ∷ []) w alone f ≡ None) → Opened image may_leave s a → s.writable ≡ w → is_some (image (hash_disk s)) ≡ is_some a → v ≡ u
-    → ((groups : List Group) → HashStands image may_leave s (opening groups) [] 0 → IfSome (image (hash_disk s)) (λ f. IfOk answer (MadeOn acts turns (hash_head s) groups s.next s.writable key p q (image u))))
+pub made_at : {D P : Type 0} (image : D → Option (List ℕ)) (may_leave : D → List ℕ → Type 0) (past : D → Past) (acts : P → List ℕ → Option (List ℕ) → Action) (turns : P → List ℕ → Option (List ℕ) → P) (a : Option (List ℕ)) (s : HashStore D) (u v : D) (w : Bool) (key : List ℕ) (p q : P) (answer : Result Status Stop)
+    → IfSome a (λ f. first_fault (1 ∷ []) w alone f ≡ None) → Opened image may_leave past s a → s.writable ≡ w → is_some (image (hash_disk s)) ≡ is_some a → v ≡ u
+    → ((groups : List Group) → HashStands image may_leave past s (opening groups) [] 0 → IfSome (image (hash_disk s)) (λ f. IfOk answer (MadeOn acts turns (hash_head s) groups s.next s.writable key p q (image u))))
     → IfSome a (λ f. IfOk answer (Made acts turns w f key p q (image v)))
-made_at image may_leave acts turns None s u v w key p q answer accepted opened mode told same made = tt
-made_at image may_leave acts turns (Some f) s u v w key p q (Err stop) accepted opened mode told same made = tt
-made_at {D = D} image may_leave acts turns (Some f) s u v w key p q (Ok status) accepted opened mode told same made = record {
+made_at image may_leave past acts turns None s u v w key p q answer accepted opened mode told same made = tt
+made_at image may_leave past acts turns (Some f) s u v w key p q (Err stop) accepted opened mode told same made = tt
+made_at {D = D} image may_leave past acts turns (Some f) s u v w key p q (Ok status) accepted opened mode told same made = record {
   holds = record { accepted = accepted; head = hash_head s; groups = opened.0; next = s.next; file = opened.2 };
   made = subst (λ (x : D). MadeOn acts turns (hash_head s) opened.0 s.next w key p q (image x) status) (sym same)
       (subst (λ (b : Bool). MadeOn acts turns (hash_head s) opened.0 s.next b key p q (image u) status) mode (known (image (hash_disk s)) _ told (made opened.0 opened.1)));
 }
 
-pub no_room_at : {D P : Type 0} (image : D → Option (List ℕ)) (may_leave : D → List ℕ → Type 0) (acts : P → List ℕ → Option (List ℕ) → Action) (a : Option (List ℕ)) (s : HashStore D) (u v : D) (w : Bool) (key : List ℕ) (p : P) (answer : Result Status Stop)
-    → IfSome a (λ f. first_fault (1 ∷ []) w alone f ≡ None) → Opened image may_leave s a → is_some (image (hash_disk s)) ≡ is_some a → v ≡ u
-    → ((groups : List Group) → HashStands image may_leave s (opening groups) [] 0 → IfSome (image (hash_disk s)) (λ f. answer ≡ Err Full → NoRoomOn acts (hash_head s) groups s.next key p (image u)))
+pub no_room_at : {D P : Type 0} (image : D → Option (List ℕ)) (may_leave : D → List ℕ → Type 0) (past : D → Past) (acts : P → List ℕ → Option (List ℕ) → Action) (a : Option (List ℕ)) (s : HashStore D) (u v : D) (w : Bool) (key : List ℕ) (p : P) (answer : Result Status Stop)
+    → IfSome a (λ f. first_fault (1 ∷ []) w alone f ≡ None) → Opened image may_leave past s a → is_some (image (hash_disk s)) ≡ is_some a → v ≡ u
+    → ((groups : List Group) → HashStands image may_leave past s (opening groups) [] 0 → IfSome (image (hash_disk s)) (λ f. answer ≡ Err Full → NoRoomOn acts (hash_head s) groups s.next key p (image u)))
     → IfSome a (λ f. answer ≡ Err Full → NoRoom acts w f key p (image v))
-no_room_at image may_leave acts None s u v w key p answer accepted opened told same full = tt
-no_room_at {D = D} image may_leave acts (Some f) s u v w key p answer accepted opened told same full = λ is. record {
+no_room_at image may_leave past acts None s u v w key p answer accepted opened told same full = tt
+no_room_at {D = D} image may_leave past acts (Some f) s u v w key p answer accepted opened told same full = λ is. record {
   holds = record { accepted = accepted; head = hash_head s; groups = opened.0; next = s.next; file = opened.2 };
   full = subst (λ (x : D). NoRoomOn acts (hash_head s) opened.0 s.next key p (image x)) (sym same) (known (image (hash_disk s)) _ told (full opened.0 opened.1) is);
 }

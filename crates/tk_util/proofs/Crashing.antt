@@ -3,6 +3,7 @@ use Rattle.std.proofs.Common.{◌≡◌, ◌≢◌, ℕ, List, refl, sym, ◌∙
 use Rattle.std.specs.Prelude.{Option, Some, None, IfSome, Result, Ok, Err, ◌⊎◌}
 use Rattle.tk_model.specs.declared.error.OpenError.{OpenError}
 use Rattle.tk_model.specs.declared.error.OpenError.TheVariants as errors
+use Rattle.tk_disk.specs.Past.{Past}
 use Rattle.tk_disk.specs.Crash.{Within, Only}
 use Rattle.tk_disk.specs.declared.disk.DiskError.{DiskError}
 use Rattle.tk_status.specs.declared.Status.{Status}
@@ -39,7 +40,7 @@ crash_unopened (errors.BrokenAt place) stop left leaves after is still = subst (
 crash_unopened errors.Fault stop left leaves after is still = crash_fault stop left leaves after is
 crash_unopened errors.NoMemory stop left leaves after is still = subst (λ (x : Stop). CrashDone (Err x) left leaves after) (sym is) tt
 
-module _ {D : Type 0} (image : D → Option (List ℕ)) (may_leave : D → List ℕ → Type 0) where
+module _ {D : Type 0} (image : D → Option (List ℕ)) (may_leave : D → List ℕ → Type 0) (past : D → Past) where
   -- and one that was
   pub crash_opened : (answer : Result Status Stop) (left mid : List ℕ → Type 0) (last back : D) → ((place : ℕ) → answer ≡ Err (stops.Refused place) → ⊥) → back ≡ last → CrashDone answer mid (may_leave last) (image last) → CrashDone answer left (may_leave back) (image back)
   crash_opened answer left mid last back taken is done =
@@ -49,9 +50,9 @@ module _ {D : Type 0} (image : D → Option (List ℕ)) (may_leave : D → List 
   still_opened disk mid last back same within is still =
       subst (λ (d : D). IsStill (image disk) (image d) (may_leave disk) (may_leave d)) (sym is) (record { same = still.same ∙ same; crash = λ c l. within c (still.crash c l) })
 
-  module _ (moment : D → ℕ) (left_since : D → ℕ → List ℕ → Type 0) where
+  module _ (moment : D → ℕ) (left_since : D → ℕ → List ℕ → Type 0) (left_with : D → ℕ → Past × List ℕ → Type 0) where
     -- a store that was read at most, and then closed
-    pub still_twice : (s t u : HashStore D) → HashUntouched image may_leave moment left_since s t → HashUntouched image may_leave moment left_since t u → IsStill (image (hash_disk s)) (image (hash_disk u)) (may_leave (hash_disk s)) (may_leave (hash_disk u))
+    pub still_twice : (s t u : HashStore D) → HashUntouched image may_leave past moment left_since left_with s t → HashUntouched image may_leave past moment left_since left_with t u → IsStill (image (hash_disk s)) (image (hash_disk u)) (may_leave (hash_disk s)) (may_leave (hash_disk u))
     still_twice s t u first second = record { same = second.same ∙ first.same; crash = λ c l. first.still.crash c (second.still.crash c l) }
 
 -- what is left by a status

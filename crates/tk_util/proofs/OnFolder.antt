@@ -1,6 +1,7 @@
 -- What a command leaves to a crash, through a folder.
 use Rattle.std.proofs.Common.{◌≡◌, ◌≢◌, ℕ, Bool, true, false, List, [], sym, ◌∙◌, subst, inl, inr}
 use Rattle.std.specs.Prelude.{Option, Some, IfSome, Result, Ok, Err, ◌⊎◌}
+use Rattle.tk_disk.specs.Past.{Past}
 use Rattle.tk_disk.specs.Crash.{Within, Only}
 use Rattle.tk_disk.specs.Disk.{Rose}
 use Rattle.tk_disk.specs.Folder.{or_empty}
@@ -27,9 +28,9 @@ counted_left true false (Err stops.Fault) left leaves after done = tt
 counted_left true false (Err stops.NoMemory) left leaves after done = tt
 
 -- with the answer by the disk's count
-pub crash_counted : {D : Type 0} (image : D → Option (List ℕ)) (may_leave : D → List ℕ → Type 0) (w : Bool) (left : List ℕ → Type 0) (d : D) (answer last : Result Status Stop) (stands : Bool) → last ≡ counted_answer stands answer
+pub crash_counted : {D : Type 0} (image : D → Option (List ℕ)) (may_leave : D → List ℕ → Type 0) (past : D → Past) (w : Bool) (left : List ℕ → Type 0) (d : D) (answer last : Result Status Stop) (stands : Bool) → last ≡ counted_answer stands answer
     → CrashLeft w answer left (may_leave d) (image d) → CrashLeft w last left (may_leave d) (image d)
-crash_counted image may_leave w left d answer last stands is done = subst (λ (r : Result Status Stop). CrashLeft w r left (may_leave d) (image d)) (sym is) (counted_left w stands answer left (may_leave d) (image d) done)
+crash_counted image may_leave past w left d answer last stands is done = subst (λ (r : Result Status Stop). CrashLeft w r left (may_leave d) (image d)) (sym is) (counted_left w stands answer left (may_leave d) (image d) done)
 
 -- a fault rose
 pub fault_counted : {T : Type 0} (p q : ℕ) (answer : Result T Stop) → CallCounts p q answer → answer ≡ Err stops.Fault → Rose p q

@@ -8,6 +8,7 @@ use Rattle.tk_model.specs.declared.record.Order.TheVariants.{Hash}
 use Rattle.tk_model.specs.declared.record.Pair.{Pair}
 use Rattle.tk_model.specs.declared.record.Group.{Group}
 use Rattle.tk_model.specs.Records.{replay}
+use Rattle.tk_disk.specs.Past.{Past}
 use Rattle.tk_disk.specs.Crash.{Torn, Within, LeavesOnly}
 use Rattle.tk_disk.specs.Folder.{SameHistory}
 use Rattle.tk_block.specs.declared.head.StaticHead.{StaticHead}
@@ -87,41 +88,42 @@ empty_fault = refl
 pub has_header : (f : List ℕ) → Holds true f → f ≢ []
 has_header f holds e = absurd (cc (subst (λ (x : List ℕ). first_fault (1 ∷ []) true alone x ≡ None) e holds.accepted, empty_fault))
 
-module _ {D : Type 0} (image : D → Option (List ℕ)) (may_leave : D → List ℕ → Type 0) (moment : D → ℕ) (left_since : D → ℕ → List ℕ → Type 0) where
+module _ {D : Type 0} (image : D → Option (List ℕ)) (may_leave : D → List ℕ → Type 0) (past : D → Past) (moment : D → ℕ) (left_since : D → ℕ → List ℕ → Type 0) (left_with : D → ℕ → Past × List ℕ → Type 0) where
   -- a store is safe since the moment of one before
   abbrev pub SafeSince : (s u : HashStore D) → List Group → Type 0
-  SafeSince s u groups = (since : List Group) × HashSafe image left_since u (moment (hash_disk s)) (opening groups) since 0
+  SafeSince s u groups = (since : List Group) × HashSafe image left_since left_with u (moment (hash_disk s)) (opening groups) since 0
 
-  module _ (only : (d : D) (c : List ℕ) → left_since d (moment d) c → may_leave d c) (s : HashStore D) (groups : List Group) (st : HashStands image may_leave s (opening groups) [] 0) where
-    stood : HashStood image may_leave moment left_since s (moment (hash_disk s)) 0 (opening groups) [] 0
-    stood = hash_stood_now image may_leave moment left_since only s (opening groups) [] 0 st
+  module _ (only : (d : D) (c : List ℕ) → left_since d (moment d) c → may_leave d c) (with : (d : D) (x : Past × List ℕ) → left_with d (moment d) x → (x.0 ≡ past d) × may_leave d x.1)
+      (back : (d : D) (t : ℕ) (x : Past × List ℕ) → left_with d t x → left_since d t x.1) (s : HashStore D) (groups : List Group) (st : HashStands image may_leave past s (opening groups) [] 0) where
+    stood : HashStood image may_leave past moment left_since left_with s (moment (hash_disk s)) 0 (opening groups) [] 0
+    stood = hash_stood_now image may_leave past moment left_since left_with only with back s (opening groups) [] 0 st
 
     -- after a call that failed
-    pub safe_failed : (u : HashStore D) (more : List Pair → List Group) → IfSome (map_in image s) (λ m. LeavesSafe (HashStood image may_leave moment left_since) (HashSafe image left_since) (more m) s u) → IfSome (image (hash_disk s)) (λ f. SafeSince s u groups)
+    pub safe_failed : (u : HashStore D) (more : List Pair → List Group) → IfSome (map_in image s) (λ m. LeavesSafe (HashStood image may_leave past moment left_since left_with) (HashSafe image left_since left_with) (more m) s u) → IfSome (image (hash_disk s)) (λ f. SafeSince s u groups)
     safe_failed u more leaves =
-        told_map (image (hash_disk s)) (map_in image s) (replay Hash groups []) (λ m. LeavesSafe (HashStood image may_leave moment left_since) (HashSafe image left_since) (more m) s u) (SafeSince s u groups)
-        (map_is image may_leave s groups st) leaves (λ safe. (more (replay Hash groups []), safe (moment (hash_disk s)) 0 (opening groups) [] 0 stood))
+        told_map (image (hash_disk s)) (map_in image s) (replay Hash groups []) (λ m. LeavesSafe (HashStood image may_leave past moment left_since left_with) (HashSafe image left_since left_with) (more m) s u) (SafeSince s u groups)
+        (map_is image may_leave past s groups st) leaves (λ safe. (more (replay Hash groups []), safe (moment (hash_disk s)) 0 (opening groups) [] 0 stood))
 
     -- after one that was made, and the end
     pub safe_made : (t u : HashStore D) (more : List Pair → List Group)
-        → IfSome (map_in image s) (λ m. (at n : ℕ) (first : First) (since : List Group) (hard : ℕ) → HashStood image may_leave moment left_since s at n first since hard → HashStood image may_leave moment left_since t at n first (since ++ more m) hard)
-        → LeavesSafe (HashStood image may_leave moment left_since) (HashSafe image left_since) [] t u → IfSome (image (hash_disk s)) (λ f. SafeSince s u groups)
+        → IfSome (map_in image s) (λ m. (at n : ℕ) (first : First) (since : List Group) (hard : ℕ) → HashStood image may_leave past moment left_since left_with s at n first since hard → HashStood image may_leave past moment left_since left_with t at n first (since ++ more m) hard)
+        → LeavesSafe (HashStood image may_leave past moment left_since left_with) (HashSafe image left_since left_with) [] t u → IfSome (image (hash_disk s)) (λ f. SafeSince s u groups)
     safe_made t u more grown leaves =
         told_map (image (hash_disk s)) (map_in image s) (replay Hash groups [])
-        (λ m. (at n : ℕ) (first : First) (since : List Group) (hard : ℕ) → HashStood image may_leave moment left_since s at n first since hard → HashStood image may_leave moment left_since t at n first (since ++ more m) hard) (SafeSince s u groups)
-        (map_is image may_leave s groups st) grown
+        (λ m. (at n : ℕ) (first : First) (since : List Group) (hard : ℕ) → HashStood image may_leave past moment left_since left_with s at n first since hard → HashStood image may_leave past moment left_since left_with t at n first (since ++ more m) hard) (SafeSince s u groups)
+        (map_is image may_leave past s groups st) grown
         (λ on. (more (replay Hash groups []) ++ [], leaves (moment (hash_disk s)) 0 (opening groups) (more (replay Hash groups [])) 0 (on (moment (hash_disk s)) 0 (opening groups) [] 0 stood)))
 
     -- after one that was refused, and the end
-    pub safe_refused : (t u : HashStore D) → ((at n : ℕ) (first : First) (since : List Group) (hard : ℕ) → HashStood image may_leave moment left_since s at n first since hard → HashStood image may_leave moment left_since t at n first since hard)
-        → LeavesSafe (HashStood image may_leave moment left_since) (HashSafe image left_since) [] t u → IfSome (image (hash_disk s)) (λ f. SafeSince s u groups)
+    pub safe_refused : (t u : HashStore D) → ((at n : ℕ) (first : First) (since : List Group) (hard : ℕ) → HashStood image may_leave past moment left_since left_with s at n first since hard → HashStood image may_leave past moment left_since left_with t at n first since hard)
+        → LeavesSafe (HashStood image may_leave past moment left_since left_with) (HashSafe image left_since left_with) [] t u → IfSome (image (hash_disk s)) (λ f. SafeSince s u groups)
     safe_refused t u kept leaves = always (image (hash_disk s)) (SafeSince s u groups) ([], leaves (moment (hash_disk s)) 0 (opening groups) [] 0 (kept (moment (hash_disk s)) 0 (opening groups) [] 0 stood))
 
   module _ (counts : (d : D) (t : ℕ) (c : List ℕ) → t ≤ moment d → may_leave d c → left_since d t c) where
     -- a file that was opened is spared
-    pub spared_at : (a : Option (List ℕ)) (s u : HashStore D) (v : D) (left : List ℕ → Type 0) → Opened image may_leave s a → s.writable ≡ true → is_some (image (hash_disk s)) ≡ is_some a → v ≡ hash_disk u
+    pub spared_at : (a : Option (List ℕ)) (s u : HashStore D) (v : D) (left : List ℕ → Type 0) → Opened image may_leave past s a → s.writable ≡ true → is_some (image (hash_disk s)) ≡ is_some a → v ≡ hash_disk u
         → is_some (map_in image u) ≡ is_some (map_in image s) → hash_nature u ≡ hash_nature s → moment (hash_disk s) ≤ moment (hash_disk u)
-        → ((groups : List Group) → HashStands image may_leave s (opening groups) [] 0 → IfSome (image (hash_disk s)) (λ f. SafeSince s u groups)) → IfSome a (λ f. Spares f left (may_leave v))
+        → ((groups : List Group) → HashStands image may_leave past s (opening groups) [] 0 → IfSome (image (hash_disk s)) (λ f. SafeSince s u groups)) → IfSome a (λ f. Spares f left (may_leave v))
     spared_at None s u v left opened may told same still nature later safe = tt
     spared_at (Some f) s u v left opened may told same still nature later safe = λ holds before c leaves.
         let groups : List Group = opened.0 in
@@ -151,8 +153,8 @@ spares_moved (Some f) m left mid leaves same within spares = λ holds before c l
     subst (λ (x : Option (List ℕ)). IfSome x (λ f. Spares f mid leaves)) (same some) spares holds (λ d was. before d (within some d was)) c l
 
 -- a file whose disk was not taken is spared
-pub spares_history : (f : List ℕ) (m n : ℕ) (left leaves : List ℕ → Type 0) (past since : ℕ → List ℕ → Type 0) → SameHistory m n left leaves past since → Spares f left leaves
-spares_history f m n left leaves past since same = λ holds before c l. before c (same.crash c l)
+pub spares_history : (f : List ℕ) (m n : ℕ) (left leaves : List ℕ → Type 0) (was since : ℕ → List ℕ → Type 0) (p q : Past) (was_with since_with : ℕ → Past × List ℕ → Type 0) → SameHistory m n left leaves was since p q was_with since_with → Spares f left leaves
+spares_history f m n left leaves was since p q was_with since_with same = λ holds before c l. before c (same.crash c l)
 
 -- and so is one whose disk was spared
 pub spares_through : (f : List ℕ) (o : Option (List ℕ)) (left mid last leaves : List ℕ → Type 0) → o ≡ Some f → IfSome o (λ f. Spares f mid last) → Within left mid → Within last leaves → Spares f left leaves

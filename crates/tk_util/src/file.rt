@@ -36,9 +36,11 @@ pub(crate) fn take_disk<F: Folder>(folder: &mut F, name: &str, create: bool) -> 
     ensures tells { F.tells folder.new ≡ F.tells folder.old }
     ensures cause { HasExactCause Stop.Fault (F.fault_count folder.old) (F.fault_count folder.new) result }
     ensures crash { IfOk result (λ d. SameHistory (F.moment_of folder.old name.now) (F.D.moment d) (F.leaves folder.old name.now) (F.D.may_leave d)
-        (F.left_since folder.old name.now) (F.D.left_since d)) }
+        (F.left_since folder.old name.now) (F.D.left_since d)
+        (F.past_of folder.old name.now) (F.D.past d) (F.left_with folder.old name.now) (F.D.left_with d)) }
     ensures err_crash { OnErr result (SameHistory (F.moment_of folder.old name.now) (F.moment_of folder.new name.now) (F.leaves folder.old name.now) (F.leaves folder.new name.now)
-        (F.left_since folder.old name.now) (F.left_since folder.new name.now)) }
+        (F.left_since folder.old name.now) (F.left_since folder.new name.now)
+        (F.past_of folder.old name.now) (F.past_of folder.new name.now) (F.left_with folder.old name.now) (F.left_with folder.new name.now)) }
     ensures others_crash { OthersWithin name.now (F.leaves folder.old) (F.leaves folder.new) }
 {
     match folder.take(name, create) {

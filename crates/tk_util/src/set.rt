@@ -61,7 +61,7 @@ fn set_fresh<D: Disk>(
         return Ok(false);
     }
     let pairs = one_record(alloc, key, value)?;
-    match write_fresh(alloc, disk, &NEW_HEAD, &pairs) {
+    match write_fresh(alloc, disk, &NEW_HEAD, 0, &pairs) {
         Ok(()) => Ok(true),
         Err(DiskError::NoMemory) => {
             disk.cut(0)?;

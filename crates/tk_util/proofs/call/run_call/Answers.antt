@@ -8,22 +8,22 @@ use Rattle.tk_util.proofs.call.run_call.Goals as goal
 
 pub returns-clause-made : goal.returns-clause-made
 returns-clause-made g c =
-    made_at g.D.Disk.image g.D.Disk.may_leave g.P.RecordProcessor.acts g.P.RecordProcessor.turns (g.D.Disk.image c.args.disk) c.in-Ok.store (hash_disk c.call_on-answer.new.store) c.into_disk.result c.args.writable _ _ _ c.call_on-answer.result
+    made_at g.D.Disk.image g.D.Disk.may_leave g.D.Disk.past g.P.RecordProcessor.acts g.P.RecordProcessor.turns (g.D.Disk.image c.args.disk) c.in-Ok.store (hash_disk c.call_on-answer.new.store) c.into_disk.result c.args.writable _ _ _ c.call_on-answer.result
     c.in-Ok.ensures.exact c.in-Ok.ensures.opened c.in-Ok.ensures.mode.0 c.in-Ok.ensures.told c.into_disk.ensures c.call_on-answer.ensures.made
 
 pub returns-clause-no_room : goal.returns-clause-no_room
 returns-clause-no_room g c =
-    no_room_at g.D.Disk.image g.D.Disk.may_leave g.P.RecordProcessor.acts (g.D.Disk.image c.args.disk) c.in-Ok.store (hash_disk c.call_on-answer.new.store) c.into_disk.result c.args.writable c.args.key.now c.args.p.now c.call_on-answer.result
+    no_room_at g.D.Disk.image g.D.Disk.may_leave g.D.Disk.past g.P.RecordProcessor.acts (g.D.Disk.image c.args.disk) c.in-Ok.store (hash_disk c.call_on-answer.new.store) c.into_disk.result c.args.writable c.args.key.now c.args.p.now c.call_on-answer.result
     c.in-Ok.ensures.exact c.in-Ok.ensures.opened c.in-Ok.ensures.told c.into_disk.ensures c.call_on-answer.ensures.no_room
 
 pub returns-clause-spared : goal.returns-clause-spared
 returns-clause-spared g c = λ may.
-    spared_at g.D.Disk.image g.D.Disk.may_leave g.D.Disk.moment g.D.Disk.left_since g.met.D.Disk.counts_now (g.D.Disk.image c.args.disk) c.in-Ok.store c.call_on-answer.new.store c.into_disk.result (g.D.Disk.may_leave c.args.disk)
+    spared_at g.D.Disk.image g.D.Disk.may_leave g.D.Disk.past g.D.Disk.moment g.D.Disk.left_since g.D.Disk.left_with g.met.D.Disk.counts_now g.met.D.Disk.counts_with (g.D.Disk.image c.args.disk) c.in-Ok.store c.call_on-answer.new.store c.into_disk.result (g.D.Disk.may_leave c.args.disk)
     c.in-Ok.ensures.opened (c.in-Ok.ensures.mode.0 ∙ may) c.in-Ok.ensures.told c.into_disk.ensures c.call_on-answer.ensures.told c.call_on-answer.ensures.nature c.call_on-answer.ensures.time c.call_on-answer.ensures.safe
 
 pub returns-in-Err-clause-spared : goal.returns-in-Err-clause-spared
 returns-in-Err-clause-spared g c = λ may.
-    spared_back g.D.Disk.image g.D.Disk.may_leave g.D.Disk.moment g.D.Disk.left_since g.met.D.Disk.counts_now (g.D.Disk.image c.args.disk) c.args.disk _ c.in-Err.ensures.back_time
+    spared_back g.D.Disk.image g.D.Disk.may_leave g.D.Disk.past g.D.Disk.moment g.D.Disk.left_since g.D.Disk.left_with g.met.D.Disk.counts_now g.met.D.Disk.counts_with (g.D.Disk.image c.args.disk) c.args.disk _ c.in-Err.ensures.back_time
 
 pub returns-clause-refused : goal.returns-clause-refused
 returns-clause-refused g c =
@@ -31,7 +31,7 @@ returns-clause-refused g c =
 
 pub returns-clause-crash : goal.returns-clause-crash
 returns-clause-crash g c = λ may.
-    crash_opened g.D.Disk.image g.D.Disk.may_leave c.call_on-answer.result (g.D.Disk.may_leave c.args.disk) (g.D.Disk.may_leave (hash_disk c.in-Ok.store)) (hash_disk c.call_on-answer.new.store) c.into_disk.result
+    crash_opened g.D.Disk.image g.D.Disk.may_leave g.D.Disk.past c.call_on-answer.result (g.D.Disk.may_leave c.args.disk) (g.D.Disk.may_leave (hash_disk c.in-Ok.store)) (hash_disk c.call_on-answer.new.store) c.into_disk.result
     c.call_on-answer.ensures.taken c.into_disk.ensures (c.call_on-answer.ensures.crash (c.in-Ok.ensures.mode.0 ∙ may))
 
 pub returns-in-Err-clause-crash : goal.returns-in-Err-clause-crash
@@ -39,7 +39,7 @@ returns-in-Err-clause-crash g c = λ may. crash_unopened _ _ _ _ _ c.unopened.en
 
 pub returns-clause-reads : goal.returns-clause-reads
 returns-clause-reads g c = λ reads.
-    still_opened g.D.Disk.image g.D.Disk.may_leave c.args.disk (hash_disk c.in-Ok.store) (hash_disk c.call_on-answer.new.store) c.into_disk.result
+    still_opened g.D.Disk.image g.D.Disk.may_leave g.D.Disk.past c.args.disk (hash_disk c.in-Ok.store) (hash_disk c.call_on-answer.new.store) c.into_disk.result
     (c.in-Ok.ensures.reads reads) (c.in-Ok.ensures.reads_still reads).crash c.into_disk.ensures (c.call_on-answer.ensures.reads (c.in-Ok.ensures.mode.0 ∙ reads))
 
 pub returns-in-Err-clause-reads : goal.returns-in-Err-clause-reads

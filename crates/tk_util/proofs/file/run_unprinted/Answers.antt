@@ -84,7 +84,7 @@ returns-clause-crash g c =
     c.in-Ok.ensures.image
     (λ tells. subst (λ (n : List ℕ). g.F.Folder.file c.give-given.new.self n ≡ g.F.D.Disk.image c.call_command-disk.result.disk) (same_name g c) (c.give-given.ensures.here (c.take_disk.ensures.tells ∙ tells)))
     c.call_command-disk.ensures.spared
-    (crash_counted g.F.D.Disk.image g.F.D.Disk.may_leave (writes (file_said c.args.command)) (g.F.D.Disk.may_leave c.in-Ok.disk) _ c.call_command-disk.result.answer c.counted-answer.result _ c.counted-answer.ensures.answer c.call_command-disk.ensures.crash)
+    (crash_counted g.F.D.Disk.image g.F.D.Disk.may_leave g.F.D.Disk.past (writes (file_said c.args.command)) (g.F.D.Disk.may_leave c.in-Ok.disk) _ c.call_command-disk.result.answer c.counted-answer.result _ c.counted-answer.ensures.answer c.call_command-disk.ensures.crash)
     c.in-Ok.ensures.crash.crash
     (subst (λ (n : List ℕ). Within (g.F.D.Disk.may_leave c.call_command-disk.result.disk) (g.F.Folder.leaves c.give-given.new.self n)) (same_name g c) c.give-given.ensures.crash.crash)
     c.take_disk.ensures.others_crash
