@@ -5,67 +5,16 @@ ghost use Rattle.tk_restore.specs.Restoration.{IsAppending};
 use super::*;
 use std::alloc::Global;
 use std::test::Fail;
-use tk_append::{restore_groups, write_fresh};
-use tk_block::{LinkList, StaticHead, read_static, write_group, write_static};
+use tk_append::restore_groups;
+use tk_block::read_static;
 use tk_disk::MemDisk;
-use tk_model::{Bytes, Change, ChangeList, FaultList, Group, NoMemory, OpenError, Pair};
+use tk_model::{Bytes, FaultList, NoMemory, OpenError, Pair, PairList};
 use tk_store::HashedRecords;
 
-const HEAD: StaticHead = StaticHead {
-    kind: 1,
-    version: 1,
-    p: 0,
-    order: 0,
-    generation: 7,
-};
-
-fn set(alloc: Global, key: u8, value: &[u8]) -> Result<Change, NoMemory> {
-    let key = Bytes::from_slice(alloc, &[key])?;
-    let value = Bytes::from_slice(alloc, value)?;
-    Ok(Change::Put(Pair { key, value }))
-}
-
-fn removed(alloc: Global, key: u8) -> Result<Change, NoMemory> {
-    Ok(Change::Drop(Bytes::from_slice(alloc, &[key])?))
-}
-
-/// Five groups: two sets, a remove and a set, a clear, two sets, a set of a key that is there.
-fn changes_of(alloc: Global, number: u64) -> Result<ChangeList, NoMemory> {
-    let mut changes = ChangeList::new(alloc);
-    match number {
-        1 => {
-            changes.push(set(alloc, b'a', b"1")?)?;
-            changes.push(set(alloc, b'b', b"2222")?)?;
-        }
-        2 => {
-            changes.push(removed(alloc, b'a')?)?;
-            changes.push(set(alloc, b'c', b"3")?)?;
-        }
-        3 => changes.push(Change::Clear)?,
-        4 => {
-            changes.push(set(alloc, b'd', b"4")?)?;
-            changes.push(set(alloc, b'e', b"55555555")?)?;
-        }
-        _ => changes.push(set(alloc, b'd', b"66")?)?,
-    }
-    Ok(changes)
-}
-
-/// An open file of these groups. No link and no head is right.
-fn image(alloc: Global) -> Result<Bytes, NoMemory> {
-    let mut text = Bytes::from_slice(alloc, &write_static(&HEAD))?;
-    text.extend_zeros(40)?;
-    for number in 1..=5 {
-        let changes = changes_of(alloc, number)?;
-        let mut links = LinkList::new(alloc);
-        for _change in 0..changes.len() {
-            links.push(8)?;
-        }
-        let place = text.len() as u64;
-        write_group(&Group { number, changes }, place, &links, &mut text)?;
-    }
-    Ok(text)
-}
+/// An open file of five groups: two sets, a remove and a set, a clear, two sets, a set of a key that is there. No link and
+/// no head is right.
+const IMAGE: &[u8] =
+    b"TKPHASH\x0a\x01\x01\0\0\0\0\0\0\0\0\0\x07\0\0\0\0\0\0\0H\x0b\xe2*1\0\0\0\0\0\0\0\0\0\0\0\0\0\0\0\0\0\0\0\0\0\0\0\0\0\0\0\0\0\0\0\0\0\0\0\0\0\0\0\0TKB1\0\0\0\0\0\0\00\x82\x9bB\xa5\0\0\0\0\0\0\0\x08\x01\0\0\x01\0\0\0\x01\0\0\0\0\0\0\0\x01a1/A\x84\x91\0\0TKB1\0\0\0\0\0\0\08xU;\x0d\0\0\0\0\0\0\0\x08\x01\x01\0\x01\0\0\0\x04\0\0\0\0\0\0\0\x01b2222\xe5!\xb2\xbb\0\0\0\0\0\0\0TKB1\0\0\0\0\0\0\00\xba\x9a\x07\xcd\0\0\0\0\0\0\0\x08\x02\0\0\x01\0\0\0\0\0\0\0\0\0\0\0\x02a\xc9\xf7\x8d!\0\0\0TKB1\0\0\0\0\0\0\00\xea\x9aS]\0\0\0\0\0\0\0\x08\x01\x01\0\x01\0\0\0\x01\0\0\0\0\0\0\0\x02c3s\xb5\xf7c\0\0TKB1\0\0\0\0\0\0\00\x14\x98V\xe4\0\0\0\0\0\0\0\x08\x04\x01\0\0\0\0\0\0\0\0\0\0\0\0\0\x03LF;:\0\0\0\0TKB1\0\0\0\0\0\0\00d\x98\xd4\xd4\0\0\0\0\0\0\0\x08\x01\0\0\x01\0\0\0\x01\0\0\0\0\0\0\0\x04d4\x95\x02mY\0\0TKB1\0\0\0\0\0\0\08jR\xe6l\0\0\0\0\0\0\0\x08\x01\x01\0\x01\0\0\0\x08\0\0\0\0\0\0\0\x04e55555555\xc9%|\x06\0\0\0TKB1\0\0\0\0\0\0\00\xbc\x99_\x5c\0\0\0\0\0\0\0\x08\x01\x01\0\x01\0\0\0\x02\0\0\0\0\0\0\0\x05d66\x8c;.\xee\0";
 
 fn disk(alloc: Global, bytes: &[u8], fault: u64) -> Result<MemDisk, NoMemory>
     ensures { IfOk result (λ d. mem_bytes d ≡ bytes.now) }
@@ -76,21 +25,30 @@ fn disk(alloc: Global, bytes: &[u8], fault: u64) -> Result<MemDisk, NoMemory>
     MemDisk::new(alloc, bytes, 100_000, faults)
 }
 
-/// The file of the records that the slow program finds.
-fn slowly(alloc: Global, head: &StaticHead, bytes: &[u8]) -> Result<MemDisk, Fail> {
+/// The records that the slow program finds.
+fn slowly(alloc: Global, bytes: &[u8]) -> Result<PairList, NoMemory> {
     let mut records = HashedRecords::new(alloc, 0)?;
     for group in restore_groups(alloc, bytes)?.into_vec() {
         for change in group.changes.into_vec() {
             records.apply(change)?;
         }
     }
-    let head = StaticHead {
-        generation: 0,
-        ..*head
-    };
-    let mut to = disk(alloc, b"", 1_000)?;
-    write_fresh(alloc, &mut to, &head, 0, &records.into_pairs()?)?;
-    Ok(to)
+    records.into_pairs()
+}
+
+fn are_alike(some: &[Pair], others: &[Pair]) -> bool {
+    if some.len() != others.len() {
+        return false;
+    }
+    for i in 0..some.len() {
+        let (one, other) = (&some[i], &others[i]);
+        if one.key.as_slice() != other.key.as_slice()
+            || one.value.as_slice() != other.value.as_slice()
+        {
+            return false;
+        }
+    }
+    true
 }
 
 /// The image has no header of an updating file.
@@ -111,19 +69,19 @@ fn is_same(alloc: Global, bytes: &[u8]) -> Result<bool, Fail> {
     let mut from = disk(alloc, bytes, 1_000)?;
     let mut to = disk(alloc, b"", 1_000)?;
     let restored = restore_appending(alloc, &mut from, &mut to);
-    let Some(head) = read_static(bytes) else {
+    if read_static(bytes).is_none() {
         return Ok(restored == Err(OpenError::NotADatabase) && to.bytes().is_empty());
-    };
-    let slow = slowly(alloc, &head, bytes)?;
-    Ok(restored.is_ok() && from.bytes() == bytes && to.bytes() == slow.bytes())
+    }
+    let records = slowly(alloc, to.bytes())?;
+    let is_alike = are_alike(records.as_slice(), slowly(alloc, bytes)?.as_slice());
+    Ok(is_alike && restored == Ok(records.len() as u64) && from.bytes() == bytes)
 }
 
 #[test]
 fn all_groups(rt: HostRuntime) -> Result<(), Fail> {
     let alloc = rt.alloc();
-    let whole = image(alloc)?;
-    assert!(rt; is_appending(whole.as_slice()));
-    let mut from = disk(alloc, whole.as_slice(), 1_000)?;
+    assert!(rt; is_appending(IMAGE));
+    let mut from = disk(alloc, IMAGE, 1_000)?;
     let mut to = disk(alloc, b"", 1_000)?;
     assert_eq!(rt; restore_appending(alloc, &mut from, &mut to), Ok(2));
     assert_eq!(rt; to.bytes().len(), 72 + 48 + 56);
@@ -134,9 +92,8 @@ fn all_groups(rt: HostRuntime) -> Result<(), Fail> {
 #[test]
 fn each_cut(rt: HostRuntime) -> Result<(), Fail> {
     let alloc = rt.alloc();
-    let whole = image(alloc)?;
-    for len in 0..=whole.len() {
-        assert!(rt; is_same(alloc, &whole.as_slice()[..len])?, "at {len}");
+    for len in 0..=IMAGE.len() {
+        assert!(rt; is_same(alloc, &IMAGE[..len])?, "at {len}");
     }
     Ok(())
 }
@@ -144,10 +101,9 @@ fn each_cut(rt: HostRuntime) -> Result<(), Fail> {
 #[test]
 fn each_changed_byte(rt: HostRuntime) -> Result<(), Fail> {
     let alloc = rt.alloc();
-    let whole = image(alloc)?;
-    for at in 0..whole.len() {
-        let mut other = Bytes::from_slice(alloc, whole.as_slice())?;
-        other.write_at(at, &[whole.at(at) ^ 1]);
+    for at in 0..IMAGE.len() {
+        let mut other = Bytes::from_slice(alloc, IMAGE)?;
+        other.write_at(at, &[IMAGE[at] ^ 1]);
         assert!(rt; is_same(alloc, other.as_slice())?, "at {at}");
     }
     Ok(())
@@ -157,10 +113,9 @@ fn each_changed_byte(rt: HostRuntime) -> Result<(), Fail> {
 #[test]
 fn each_fault(rt: HostRuntime) -> Result<(), Fail> {
     let alloc = rt.alloc();
-    let whole = image(alloc)?;
-    assert!(rt; is_appending(whole.as_slice()));
+    assert!(rt; is_appending(IMAGE));
     for call in 0..3 {
-        let mut from = disk(alloc, whole.as_slice(), call)?;
+        let mut from = disk(alloc, IMAGE, call)?;
         let mut to = disk(alloc, b"", 1_000)?;
         assert_eq!(rt;
             restore_appending(alloc, &mut from, &mut to),
@@ -170,14 +125,14 @@ fn each_fault(rt: HostRuntime) -> Result<(), Fail> {
         assert!(rt; to.bytes().is_empty());
     }
     for call in 0..4 {
-        let mut from = disk(alloc, whole.as_slice(), 1_000)?;
+        let mut from = disk(alloc, IMAGE, 1_000)?;
         let mut to = disk(alloc, b"", call)?;
         assert_eq!(rt;
             restore_appending(alloc, &mut from, &mut to),
             Err(OpenError::Fault),
             "at {call}"
         );
-        assert!(rt; from.bytes() == whole.as_slice());
+        assert!(rt; from.bytes() == IMAGE);
     }
     Ok(())
 }
