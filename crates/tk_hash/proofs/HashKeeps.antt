@@ -301,11 +301,11 @@ module _ {D : Type 0} (image : D → Option (List ℕ)) (may_leave : D → List 
           let kept : t.writable ≡ true → IfSome new (λ f. (c : List ℕ) → left_since (log_disk t.log) since_when c → IsKept h (held ++ take n (since ++ more)) c) = λ may.
           carried_both o new told (stood.safe.kept (can may)) (kept_held image may_leave past s first since hard st (can may))
           (λ was kept c left. subst (λ (l : List Group). IsKept h (held ++ l) c) (sym (take-append-le n since more stood.safe.within))
-              (elim (keeps.since kept since_when c stood.before left) [ inl before ↦ was c before | inr is ↦ kept_front h held since n hard c stood.least st.synced is ])) in
+          (elim (keeps.since kept since_when c stood.before left) [ inl before ↦ was c before | inr is ↦ kept_front h held since n hard c stood.least st.synced is ])) in
           let fair : t.writable ≡ true → IfSome new (λ f. (x : Past × List ℕ) → left_with (log_disk t.log) since_when x → IsFairPast h (held ++ (since ++ more)) x.0) = λ may.
           carried_both o new told (both_told o _ _ (stood.safe.fair (can may)) (fair_held image may_leave past s first since hard st (can may))) (fair_on (can may))
           (λ was keeps_fair x left. subst (λ (l : List Group). IsFairPast h l x.0) (append_assoc held since more)
-              (elim (keeps_fair.since was.1 since_when x stood.before left) [ inl before ↦ fair_more h (held ++ since) more x.0 (was.0 x before) | inr is ↦ is ])) in
+          (elim (keeps_fair.since was.1 since_when x stood.before left) [ inl before ↦ fair_more h (held ++ since) more x.0 (was.0 x before) | inr is ↦ is ])) in
           record {
             within = within;
             each = λ may. rw head (fair_each new (left_since (log_disk t.log) since_when) (left_with (log_disk t.log) since_when) h held (since ++ more) n st.header st.generation within legal (since_with (log_disk t.log) since_when) (kept may) (fair may));

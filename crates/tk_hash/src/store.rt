@@ -131,7 +131,7 @@ impl<D: Disk> HashStore<D> {
         ensures fair { (changes : List Changed) → IsStaged D.image self.old changes staged
             → (first : First) (since : List Group) (hard : ℕ) → HashStands D.image D.may_leave D.past self.old first since hard
             → KeepsFair D.past D.moment D.left_with (hash_head self.old) (groups_held first.held ++ since)
-                (record { number = number; changes = changes } ∷ []) (hash_disk self.old) (hash_disk self.new) }
+            (record { number = number; changes = changes } ∷ []) (hash_disk self.old) (hash_disk self.new) }
         ensures size { (changes : List Changed) → IsStaged D.image self.old changes staged
             → OnOk result ((hash_shown D.image self.new).size ≡ (hash_shown D.image self.old).size + sum_by (change_extent 1) changes) }
         ensures floor { OnOk result ((hash_shown D.image self.new).floor ≡ number + 1) }
@@ -165,7 +165,7 @@ impl<D: Disk> HashStore<D> {
             → KeepsGroups D.may_leave D.moment D.left_since (hash_head self.old) (groups_held first.held ++ take hard since) (hash_disk self.old) (hash_disk self.new) }
         ensures fair { (first : First) (since : List Group) (hard : ℕ) → HashStands D.image D.may_leave D.past self.old first since hard
             → IfSome (D.image (hash_disk self.old)) (λ _. KeepsFair D.past D.moment D.left_with (hash_head self.old)
-                (groups_held first.held ++ since) [] (hash_disk self.old) (hash_disk self.new)) }
+            (groups_held first.held ++ since) [] (hash_disk self.old) (hash_disk self.new)) }
         ensures file { (groups since : List Group) (hard : ℕ) → HashStands D.image D.may_leave D.past self.old (opening groups) since hard
             → OnOk result (IfSome (D.image (hash_disk self.old)) (λ _. D.image (hash_disk self.new) ≡ Some (closed_text (hash_head self.old) (groups ++ since) next))) }
         ensures durable { OnOk result (IfSome (D.image (hash_disk self.new)) (λ f. Only f (D.may_leave (hash_disk self.new)))) }

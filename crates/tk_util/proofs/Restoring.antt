@@ -45,16 +45,16 @@ fault_kind (Some f) found h some two is = ap (restore_fault_by f) (sym is ∙ so
 kinds_left : (h : StaticHead) → is_static h ≡ true → h.kind ≢ 2 → (h.kind ≡ 1) ⊎ (h.kind ≡ 3)
 kinds_left h valid other = elim (eqb_tells h.kind 1) [ inl one ↦ inl one.1 | inr less ↦ inr (last_kind h valid other less.1) ]
   where
-  last_kind : (h : StaticHead) → is_static h ≡ true → h.kind ≢ 2 → h.kind ≢ 1 → h.kind ≡ 3
-  last_kind h valid other one = grind (arith, nat_tests)
+    last_kind : (h : StaticHead) → is_static h ≡ true → h.kind ≢ 2 → h.kind ≢ 1 → h.kind ≡ 3
+    last_kind h valid other one = grind (arith, nat_tests)
 
 -- it is that of a file of groups
 pub is_appending : (o p : Option (List ℕ)) (found : Option StaticHead) (h : StaticHead) → p ≡ o → found ≡ Some h → is_static h ≡ true → h.kind ≢ 2 → IfSome o (λ f. found ≡ static_at f) → IfSome p IsAppending
 is_appending o p found h same some valid other is = subst (λ (x : Option (List ℕ)). IfSome x IsAppending) (sym same) (appending o is)
   where
-  appending : (x : Option (List ℕ)) → IfSome x (λ f. found ≡ static_at f) → IfSome x IsAppending
-  appending None is = tt
-  appending (Some f) is = subst (λ (s : Option StaticHead). IfSome s (λ h. (h.kind ≡ 1) ⊎ (h.kind ≡ 3))) (sym some ∙ is) (kinds_left h valid other)
+    appending : (x : Option (List ℕ)) → IfSome x (λ f. found ≡ static_at f) → IfSome x IsAppending
+    appending None is = tt
+    appending (Some f) is = subst (λ (s : Option StaticHead). IfSome s (λ h. (h.kind ≡ 1) ⊎ (h.kind ≡ 3))) (sym some ∙ is) (kinds_left h valid other)
 
 by_room : (f : List ℕ) (h : StaticHead) (b : Bool) → nat_lt (2 ^ 40) (restored_size h f) ≡ b → refused_by f (Some h) ≡ (if b then Some (errors.BrokenAt 10) else None)
 by_room f h b is = ap (λ (t : Bool). if t then Some (errors.BrokenAt 10) else None) is
@@ -140,27 +140,42 @@ counted_new image f after false (Err stops.NoMemory) new = λ bytes. new
 
 module _ {P : Type 0} (image : List ℕ) (before after o1 : Option (List ℕ)) (back : after ≡ o1) where
   new_settled : (r : Result Bool Stop) → NewWritten image (or_empty before) o1 r → (r ≡ Err stops.Fault → P) → ((end : Finish) × IsWriteEnd end × (end.status ≢ 4) × WroteNew image before after end) ⊎ P
-  new_settled (Ok true) new fault = inl (ended 0, inl refl, (λ h. cc h), record {
-    done = λ e. subst (λ (o : Option (List ℕ)). IsRestored image o) (sym back) new.1;
-    exists = λ e. absurd (cc e);
-    bytes_stay = λ bytes. absurd (bytes new.0);
-    no_memory = λ e. absurd (cc e);
-  })
-  new_settled (Ok false) new fault = inl (exists_at 1, inr (inr (inr refl)), (λ h. cc h), record {
-    done = λ e. absurd (cc e);
-    exists = λ e. new.0;
-    bytes_stay = λ bytes. ((λ h. cc h), back ∙ new.1 ∙ sym (has_bytes before bytes));
-    no_memory = λ e. absurd (cc e);
-  })
+  new_settled (Ok true) new fault = inl (
+    ended 0,
+    inl refl,
+    (λ h. cc h),
+    record {
+      done = λ e. subst (λ (o : Option (List ℕ)). IsRestored image o) (sym back) new.1;
+      exists = λ e. absurd (cc e);
+      bytes_stay = λ bytes. absurd (bytes new.0);
+      no_memory = λ e. absurd (cc e);
+    },
+  )
+  new_settled (Ok false) new fault = inl (
+    exists_at 1,
+    inr (inr (inr refl)),
+    (λ h. cc h),
+    record {
+      done = λ e. absurd (cc e);
+      exists = λ e. new.0;
+      bytes_stay = λ bytes. ((λ h. cc h), back ∙ new.1 ∙ sym (has_bytes before bytes));
+      no_memory = λ e. absurd (cc e);
+    },
+  )
   new_settled (Err (stops.Refused place)) new fault = absurd new
   new_settled (Err stops.Full) new fault = absurd new
   new_settled (Err stops.Fault) new fault = inr (fault refl)
-  new_settled (Err stops.NoMemory) new fault = inl (ended 5, inr (inr (inl refl)), (λ h. cc h), record {
-    done = λ e. absurd (cc e);
-    exists = λ e. absurd (cc e);
-    bytes_stay = λ bytes. ((λ h. cc h), back ∙ new ∙ sym (has_bytes before bytes));
-    no_memory = λ e. ap or_empty (back ∙ new);
-  })
+  new_settled (Err stops.NoMemory) new fault = inl (
+    ended 5,
+    inr (inr (inl refl)),
+    (λ h. cc h),
+    record {
+      done = λ e. absurd (cc e);
+      exists = λ e. absurd (cc e);
+      bytes_stay = λ bytes. ((λ h. cc h), back ∙ new ∙ sym (has_bytes before bytes));
+      no_memory = λ e. ap or_empty (back ∙ new);
+    },
+  )
 
   -- the new file is as an end without a fault leaves it, unless its disk failed
   pub wrote_settled : (o0 : Option (List ℕ)) (stands : Bool) (r last : Result Bool Stop) → o0 ≡ Some (or_empty before) → IfSome o0 (λ f. NewWritten image f o1 r) → last ≡ counted_answer stands r → (last ≡ Err stops.Fault → P)
@@ -240,16 +255,20 @@ module _ (c : RestoreWords) (before after : World) (only : OnlyFile c.to before 
 
   -- nothing was written
   pub unread_settled : {Q : Type 0} → after.files c.to ≡ before.files c.to → ((end : Finish) × IsClearEnd (Restore c) end.status × RanRestore c before after end) ⊎ Q
-  unread_settled same = inl (ended 5, inr (inr (inl refl)), record {
-    done = λ e. absurd (cc e);
-    refused = λ e. absurd (cc e);
-    exists = λ e. absurd (cc e);
-    sound = λ either. absurd (elim either [ inl e ↦ cc e | inr e ↦ cc e ]);
-    bytes_stay = λ bytes. ((λ h. cc h), same);
-    unmade = λ either. same;
-    no_memory = λ e. ap or_empty same;
-    only = only;
-  })
+  unread_settled same = inl (
+    ended 5,
+    inr (inr (inl refl)),
+    record {
+      done = λ e. absurd (cc e);
+      refused = λ e. absurd (cc e);
+      exists = λ e. absurd (cc e);
+      sound = λ either. absurd (elim either [ inl e ↦ cc e | inr e ↦ cc e ]);
+      bytes_stay = λ bytes. ((λ h. cc h), same);
+      unmade = λ either. same;
+      no_memory = λ e. ap or_empty same;
+      only = only;
+    },
+  )
 
 -- only the new file is another
 pub only_to : (old mid new : List ℕ → Option (List ℕ)) (name : List ℕ) → ((m : List ℕ) → mid m ≡ old m) → SameBut name mid new → SameBut name old new
