@@ -81,21 +81,10 @@ refused_by_room (Some f) found h pairs t some is appending records room =
 
 -- ---- what is written
 
-file_same : (h : StaticHead) (f : List ℕ) (pairs : List Pair) → static_at f ≡ Some h → IsAppending f → pairs ≡ restored_records f → fresh_text (restored_head h) pairs ≡ restored_file h f
+pub file_same : (h : StaticHead) (f : List ℕ) (pairs : List Pair) → static_at f ≡ Some h → IsAppending f → pairs ≡ restored_records f → fresh_text (restored_head h) pairs ≡ restored_file h f
 file_same h f pairs is appending records =
     let new = restored_head h in
     let all = restored_records f in
     ap (λ (gs : List Group). file_text new gs (length pairs) (fresh_next pairs)) (in_one h f pairs is appending)
     ∙ ap (λ (l : List Pair). file_text new (together l) (length l) (fresh_next l)) records
     ∙ ap (λ (l : List Pair). file_text new (together all) (length l) (fresh_next all)) (sym (together_leaves all (records_rising f)))
-
-pub restored_from : (image old new : Option (List ℕ)) (found : Option StaticHead) (h : StaticHead) (pairs : List Pair) (count : ℕ) → found ≡ Some h → IfSome image (λ f. found ≡ static_at f) → IfSome image IsAppending
-    → IfSome image (λ f. pairs ≡ replay Hash (groups_in h f) []) → IfSome old (λ _. new ≡ Some (fresh_text (restored_head h) pairs)) → count ≡ length pairs
-    → IfSome image (λ f. IfSome old (λ _. IsSomeAnd new (λ file. IsRestoredFrom f file count)))
-restored_from None old new found h pairs count some is appending records written counted = tt
-restored_from (Some f) None new found h pairs count some is appending records written counted = tt
-restored_from (Some f) (Some e) new found h pairs count some is appending records written counted =
-    let static : static_at f ≡ Some h = sym is ∙ some in
-    let all : pairs ≡ restored_records f = records ∙ records_are h f static in
-    subst (λ (o : Option (List ℕ)). IsSomeAnd o (λ file. IsRestoredFrom f file count)) (sym written)
-    (record { head = h; was = static; is = file_same h f pairs static appending all; counted = counted ∙ ap length all })

@@ -1,4 +1,5 @@
 pub mod Fresh
+pub mod Halves
 pub mod Headers
 pub mod Held
 pub mod Knowing

@@ -9,4 +9,5 @@ mod scan;
 mod tests;
 
 pub use law::restored_files_open;
-pub use restore::restore_appending;
+pub use restore::{Restoration, read_restoration, restore_appending, write_restoration};
+pub use scan::read_header;

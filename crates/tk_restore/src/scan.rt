@@ -24,7 +24,7 @@ use tk_model::{OpenError, PairList};
 const LONGEST: u64 = 1 << 26;
 
 /// The static header at the disk's front, where it has one.
-pub(crate) fn read_header<D: Disk>(disk: &mut D) -> Result<Option<StaticHead>, OpenError>
+pub fn read_header<D: Disk>(disk: &mut D) -> Result<Option<StaticHead>, OpenError>
     ensures found { IfSome (D.image disk.old) (λ f. IfOk result (λ found. found ≡ static_at f)) }
     ensures valid { IfOk result (λ found. IfSome found (λ h. is_static h ≡ true)) }
     ensures outside { IfErr result IsOutside }
