@@ -138,6 +138,20 @@ def table(texts):
                    for words in (("get", f"{i}.tkh", "a"), ("set", f"{i}.tkh", "c", "3"), ("remove", f"{i}.tkh", "a"))]
 
 
+def restored(records, **header):
+    """The file to which records are restored: one group of them, in hash order."""
+    group = [(1, key, value) for key, value in sorted(records, key=lambda record: (mix(record[0]), record[0]))]
+    return hash_file([(0, group)] if group else [], len(group), int(bool(group)), **header)
+
+
+def restores(text, records, **header):
+    """An image is restored to these records, and stays."""
+    new = restored(records, **header)
+    return {"x.tkh": text}, [
+        Step(["restore", "x.tkh", "y.tkh"], 0, files={"x.tkh": text, "y.tkh": new}),
+        Step(["restore", "y.tkh", "z.tkh"], 0, files={"x.tkh": text, "y.tkh": new, "z.tkh": new})]
+
+
 FIRST = one_set(b"a", b"1")
 SECOND = hash_file([(0, [(1, b"a", b"1")]), (1, [(1, b"b", b"22")])], 2, 2)
 AGAIN = hash_file([(0, [(1, b"a", b"1")]), (1, [(1, b"a", b"2")])], 1, 2)
@@ -151,6 +165,10 @@ LETTERS = one_set("\u00e9\u4e16".encode(), "\u00fc".encode())
 LATE = hash_file([(0, [(1, b"a", b"1")])], 1, 2**62 + 1)
 # Two sets of each key in one group of each; the later value counts.
 MANY = hash_file([(i, [(1, b"key %d" % i, b"old"), (1, b"key %d" % i, b"value %d" % i)]) for i in range(1500)], 1500, 1500)
+# One set, and then a group of two sets that is cut in its last block.
+CUT = hash_file([(0, [(1, b"c", b"3")]), (1, [(1, b"a", b"1"), (1, b"b", b"2")])], 3, 2)[:8390]
+PAGES = hash_file([(0, [(1, b"a", b"1")])], 1, 1, kind=3, order=1)
+UPDATING = hash_file([(0, [(1, b"a", b"1")])], 1, 1, kind=2)
 LONG_KEY = b"k" * 65535
 # One word of an argument list holds at most 131,071 bytes on Linux, so longer values are tested in the crates.
 LONG_VALUE = b"v" * 131000
@@ -270,6 +288,34 @@ ROWS = {
     "a block's text inside a value": ({"x.tkh": INSIDE}, [
         Step(["get", "x.tkh", "x"], 6, err=b"answer NOT_FOUND_ERROR\n", files={"x.tkh": INSIDE}),
         Step(["get", "x.tkh", "a"], 0, out=INSIDE[8256 + 41:8256 + 41 + 48] + b"\n", files={"x.tkh": INSIDE})]),
+    "a group that is cut off is not restored": ({"m.tkh": CUT}, [
+        Step(["get", "m.tkh", "c"], 3, err=b"file 0 refused at place 32\n", files={"m.tkh": CUT}),
+        Step(["restore", "m.tkh", "n.tkh"], 0, files={"m.tkh": CUT, "n.tkh": one_set(b"c", b"3")}),
+        Step(["get", "n.tkh", "c"], 0, out=b"3\n", files={"m.tkh": CUT, "n.tkh": one_set(b"c", b"3")}),
+        Step(["get", "n.tkh", "a"], 6, err=b"answer NOT_FOUND_ERROR\n", files={"m.tkh": CUT, "n.tkh": one_set(b"c", b"3")})]),
+    "a file that was left open is restored": restores(SECOND[:32] + left_open() + SECOND[64:], [(b"a", b"1"), (b"b", b"22")]),
+    "a closed file is restored": restores(AGAIN, [(b"a", b"2")]),
+    "a file without records is restored": restores(REMOVED, []),
+    "a file that is cut in its padding is restored whole": restores(SECOND[:-1], [(b"a", b"1"), (b"b", b"22")]),
+    "heads and links are not looked at": restores(SECOND[:64] + b"\xff" * 8192 + SECOND[8256:8272] + b"\xff" * 8 + SECOND[8280:], [(b"a", b"1"), (b"b", b"22")]),
+    "what stands behind a broken block is not restored": restores(flipped(MANY, 8256 + 56 * 3 + 40), [(b"key 0", b"value 0")]),
+    "many records are restored": restores(MANY[:-7], [(b"key %d" % i, b"value %d" % i) for i in range(1499)]),
+    "a header alone is restored": restores(SECOND[:32], []),
+    "tree pages are restored, and refused when they are opened": ({"x.tkh": PAGES}, [
+        Step(["restore", "x.tkh", "y.tkh"], 0, files={"x.tkh": PAGES, "y.tkh": PAGES}),
+        Step(["get", "y.tkh", "a"], 3, err=b"file 0 refused at place 8\n", files={"x.tkh": PAGES, "y.tkh": PAGES})]),
+    "a file of another kind is not restored": ({"x.tkh": UPDATING}, [
+        Step(["restore", "x.tkh", "y.tkh"], 3, err=b"file 0 refused at place 8\n", files={"x.tkh": UPDATING})]),
+    "no file to restore": ({"e.tkh": b"", "h.tkh": flipped(SECOND, 31), "b.tkh": b"?"}, [
+        Step(["restore", old, new], 3, err=b"file 0 refused at place 0\n", files={"e.tkh": b"", "h.tkh": flipped(SECOND, 31), "b.tkh": b"?"})
+        for old in ("absent.tkh", "e.tkh", "h.tkh", "b.tkh") for new in ("y.tkh", "b.tkh", "e.tkh") if old != new]),
+    "a new file that has bytes": ({"x.tkh": SECOND, "y.tkh": b"?"}, [
+        Step(["restore", "x.tkh", "y.tkh"], 7, err=b"file 1 exists\n", files={"x.tkh": SECOND, "y.tkh": b"?"})]),
+    "a new file that is empty": ({"x.tkh": FIRST, "y.tkh": b""}, [
+        Step(["restore", "--", "x.tkh", "y.tkh"], 0, files={"x.tkh": FIRST, "y.tkh": FIRST})]),
+    "words that restore nothing": ({"x.tkh": FIRST}, [
+        Step(["restore", *words], 1, err=b"usage\n", files={"x.tkh": FIRST})
+        for words in ((), ("x.tkh",), ("x.tkh", "x.tkh"), ("x.tkh", "y.tkt"), ("x.tkh", "y.tkh", "z.tkh"), ("x.tkh", "y.tkh", "--force"))]),
     "a file of tree pages": refused(hash_file([(0, [(1, b"a", b"1")])], 1, 1, kind=3, order=1), 8),
 }
 

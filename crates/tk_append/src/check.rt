@@ -37,7 +37,7 @@ pub(crate) struct FoundHeads {
 }
 
 /// The length of the disk's file.
-fn length_of<D: Disk>(disk: &mut D) -> Result<u64, OpenError>
+pub fn length_of<D: Disk>(disk: &mut D) -> Result<u64, OpenError>
     ensures value { IfSome (D.image disk.old) (λ f. IfOk result (λ n. n ≡ length f)) }
     ensures image { D.image disk.new ≡ D.image disk.old }
     ensures outside { IfErr result IsOutside }

@@ -104,7 +104,7 @@ find_within : (k : List ℕ) (xs ys : List Pair) → AllBehind Hash k ys → fin
 find_within k [] ys behind = none_behind k ys behind
 find_within k (p ∷ xs) ys behind = ap (λ v. if same_bytes k p.key then Some p.value else v) (find_within k xs ys behind)
 
-put_past : (new : Pair) (xs ys : List Pair) → AllBefore new.key xs → put Hash new (xs ++ ys) ≡ xs ++ put Hash new ys
+pub put_past : (new : Pair) (xs ys : List Pair) → AllBefore new.key xs → put Hash new (xs ++ ys) ≡ xs ++ put Hash new ys
 put_past new [] ys before = refl
 put_past new (p ∷ xs) ys before =
     ap (λ c. put_by c new p (xs ++ ys) (put Hash new (xs ++ ys))) (flipped Hash p.key new.key Less before.0) ∙ ap (λ m. p ∷ m) (put_past new xs ys before.1)

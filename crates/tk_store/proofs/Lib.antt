@@ -4,3 +4,4 @@ pub mod Acts
 pub mod Mem
 pub mod Bounds
 pub mod Joined
+pub mod Filling

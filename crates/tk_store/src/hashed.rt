@@ -10,6 +10,7 @@ ghost use Rattle.tk_store.specs.Hashed.{joined, start_of, end_of};
 use std::alloc::{AllocError, Global};
 use std::cmp::Ordering;
 use std::marker::Model;
+use std::mem;
 use tk_model::{
     Bound, Bytes, Change, ListOf, NoMemory, Order, Pair, PairList, Way, bucket, compare_keys,
     is_same, mix,
@@ -165,6 +166,29 @@ fn clear_all(buckets: &mut Vec<PairList>)
     for i in 0..buckets.len() {
         buckets[i].clear();
     }
+}
+
+/// All records, bucket by bucket.
+fn all_of(buckets: Vec<PairList>, count: usize) -> Result<PairList, NoMemory>
+    ensures { IfOk result (λ pairs. pairs ≡ joined buckets.items) }
+{
+    let mut all = Vec::with_capacity(*buckets.allocator(), count)?;
+    for bucket in buckets {
+        all.append(&mut bucket.into_vec())?;
+    }
+    Ok(ListOf::from_vec(all))
+}
+
+/// Puts in records that stand in hash order.
+fn fill(records: &mut HashedRecords, pairs: PairList) -> Result<(), NoMemory>
+    requires empty { records.old ≡ [] }
+    requires rising { Rising Hash pairs }
+    ensures { OnOk result (records.new ≡ pairs) }
+{
+    for pair in pairs.into_vec() {
+        records.put(pair)?;
+    }
+    Ok(())
 }
 
 fn is_within(way: Way, bound: &Bound, key: &[u8]) -> bool
@@ -328,6 +352,28 @@ impl HashedRecords {
             Change::Clear => self.clear(),
         }
         Ok(())
+    }
+
+    /// The records as one list.
+    pub fn into_pairs(self) -> Result<PairList, NoMemory>
+        ensures { IfOk result (λ pairs. pairs ≡ self) }
+    {
+        let HashedRecords { buckets, count, .. } = self;
+        all_of(buckets, count)
+    }
+
+    /// Takes eight times as many buckets where there are four records to each.
+    pub fn widen(&mut self) -> Result<(), NoMemory>
+        ensures { OnOk result (self.new ≡ self.old) }
+    {
+        if self.p > 21 || self.count >> self.p < 4 {
+            return Ok(());
+        }
+        let alloc = *self.buckets.allocator();
+        let wider = HashedRecords::new(alloc, self.p + 3)?;
+        let narrow = mem::replace(self, wider);
+        narrow.in_hash_order();
+        fill(self, narrow.into_pairs()?)
     }
 
     /// The first record within a bound on the way up.

@@ -81,5 +81,5 @@ leaves_after told mid_told name before between after left mid leaves finish same
   others = λ m ne c d. first m c (l.others m ne c d);
 }
   where
-  spares_first : (f : List ℕ) → Spares f (mid name) (leaves name) → Spares f (left name) (leaves name)
-  spares_first f spares = λ holds kept. spares holds (λ d d_left. kept d (first name d d_left))
+    spares_first : (f : List ℕ) → Spares f (mid name) (leaves name) → Spares f (left name) (leaves name)
+    spares_first f spares = λ holds kept. spares holds (λ d d_left. kept d (first name d d_left))

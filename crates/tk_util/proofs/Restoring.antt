@@ -1,6 +1,6 @@
 -- What the steps of `restore` do.
-use Rattle.std.proofs.Common.{◌≡◌, ◌≢◌, ◌⊎◌, ◌==◌, ◌≤◌, ◌^◌, ℕ, Bool, true, false, List, [], refl, sym, ◌∙◌, ap, subst, inl, inr, arith, if◌then◌else◌}
-use Rattle.std.specs.Prelude.{nat_lt, Option, Some, None, IsSome, IfSome, IfOk, IfErr, Result, Ok, Err}
+use Rattle.std.proofs.Common.{◌≡◌, ◌≢◌, ◌⊎◌, ◌==◌, ◌≤◌, ◌^◌, ℕ, Bool, true, false, List, [], ◌∷◌, length, refl, sym, ◌∙◌, ap, subst, inl, inr, arith, if◌then◌else◌}
+use Rattle.std.specs.Prelude.{nat_lt, Option, Some, None, IsSome, IfSome, IfOk, IfErr, IsSomeAnd, Result, Ok, Err}
 use Rattle.std.proofs.lemmas.Bool.{eq-eqb, ne_eqb}
 use Rattle.std.proofs.lemmas.Bool.Decides.{nat_tests, eqb_tells}
 use Rattle.tk_model.specs.declared.error.OpenError.{OpenError}
@@ -8,13 +8,13 @@ use Rattle.tk_model.specs.declared.error.OpenError.TheVariants as errors
 use Rattle.tk_block.specs.Text.{static_at, is_static}
 use Rattle.tk_block.specs.declared.head.StaticHead.{StaticHead}
 use Rattle.tk_append.specs.Log.{TellsCause}
-use Rattle.tk_disk.specs.Disk.{Rose}
 use Rattle.tk_disk.specs.Folder.{or_empty, SameBut}
 use Rattle.tk_disk.specs.declared.disk.DiskError.{DiskError}
-use Rattle.tk_restore.specs.Restoration.{IsReadFrom, IsAppending, restored_size, refusal, refused_by}
-use Rattle.tk_restore.specs.declared.Restoration.{Restoration}
+use Rattle.tk_restore.specs.Reading.{IsReadFrom}
+use Rattle.tk_restore.specs.Restoration.{IsRestoredFrom, IsAppending, restored_size, refusal, refused_by}
+use Rattle.tk_restore.specs.declared.restore.Restoration.{Restoration}
 use Rattle.tk_status.specs.declared.finish.Finish.{Finish}
-use Rattle.tk_status.specs.Finish.{ended, refused_at, exists_at}
+use Rattle.tk_status.specs.Finish.{ended, refused_at, exists_at, answered}
 use Rattle.tk_util.specs.Calls.{StopTells}
 use Rattle.tk_util.specs.Done.{NotTaken, counted_answer}
 use Rattle.tk_util.specs.Ends.{call_end}
@@ -45,16 +45,16 @@ fault_kind (Some f) found h some two is = ap (restore_fault_by f) (sym is ∙ so
 kinds_left : (h : StaticHead) → is_static h ≡ true → h.kind ≢ 2 → (h.kind ≡ 1) ⊎ (h.kind ≡ 3)
 kinds_left h valid other = elim (eqb_tells h.kind 1) [ inl one ↦ inl one.1 | inr less ↦ inr (last_kind h valid other less.1) ]
   where
-  last_kind : (h : StaticHead) → is_static h ≡ true → h.kind ≢ 2 → h.kind ≢ 1 → h.kind ≡ 3
-  last_kind h valid other one = grind (arith, nat_tests)
+    last_kind : (h : StaticHead) → is_static h ≡ true → h.kind ≢ 2 → h.kind ≢ 1 → h.kind ≡ 3
+    last_kind h valid other one = grind (arith, nat_tests)
 
 -- it is that of a file of groups
 pub is_appending : (o p : Option (List ℕ)) (found : Option StaticHead) (h : StaticHead) → p ≡ o → found ≡ Some h → is_static h ≡ true → h.kind ≢ 2 → IfSome o (λ f. found ≡ static_at f) → IfSome p IsAppending
 is_appending o p found h same some valid other is = subst (λ (x : Option (List ℕ)). IfSome x IsAppending) (sym same) (appending o is)
   where
-  appending : (x : Option (List ℕ)) → IfSome x (λ f. found ≡ static_at f) → IfSome x IsAppending
-  appending None is = tt
-  appending (Some f) is = subst (λ (s : Option StaticHead). IfSome s (λ h. (h.kind ≡ 1) ⊎ (h.kind ≡ 3))) (sym some ∙ is) (kinds_left h valid other)
+    appending : (x : Option (List ℕ)) → IfSome x (λ f. found ≡ static_at f) → IfSome x IsAppending
+    appending None is = tt
+    appending (Some f) is = subst (λ (s : Option StaticHead). IfSome s (λ h. (h.kind ≡ 1) ⊎ (h.kind ≡ 3))) (sym some ∙ is) (kinds_left h valid other)
 
 by_room : (f : List ℕ) (h : StaticHead) (b : Bool) → nat_lt (2 ^ 40) (restored_size h f) ≡ b → refused_by f (Some h) ≡ (if b then Some (errors.BrokenAt 10) else None)
 by_room f h b is = ap (λ (t : Bool). if t then Some (errors.BrokenAt 10) else None) is
@@ -140,33 +140,96 @@ counted_new image f after false (Err stops.NoMemory) new = λ bytes. new
 
 module _ {P : Type 0} (image : List ℕ) (before after o1 : Option (List ℕ)) (back : after ≡ o1) where
   new_settled : (r : Result Bool Stop) → NewWritten image (or_empty before) o1 r → (r ≡ Err stops.Fault → P) → ((end : Finish) × IsWriteEnd end × (end.status ≢ 4) × WroteNew image before after end) ⊎ P
-  new_settled (Ok true) new fault = inl (ended 0, inl refl, (λ h. cc h), record {
-    done = λ e. subst (λ (o : Option (List ℕ)). IsRestored image o) (sym back) new.1;
-    exists = λ e. absurd (cc e);
-    bytes_stay = λ bytes. absurd (bytes new.0);
-    no_memory = λ e. absurd (cc e);
-  })
-  new_settled (Ok false) new fault = inl (exists_at 1, inr (inr (inr refl)), (λ h. cc h), record {
-    done = λ e. absurd (cc e);
-    exists = λ e. new.0;
-    bytes_stay = λ bytes. ((λ h. cc h), back ∙ new.1 ∙ sym (has_bytes before bytes));
-    no_memory = λ e. absurd (cc e);
-  })
+  new_settled (Ok true) new fault = inl (
+    ended 0,
+    inl refl,
+    (λ h. cc h),
+    record {
+      done = λ e. subst (λ (o : Option (List ℕ)). IsRestored image o) (sym back) new.1;
+      exists = λ e. absurd (cc e);
+      bytes_stay = λ bytes. absurd (bytes new.0);
+      no_memory = λ e. absurd (cc e);
+    },
+  )
+  new_settled (Ok false) new fault = inl (
+    exists_at 1,
+    inr (inr (inr refl)),
+    (λ h. cc h),
+    record {
+      done = λ e. absurd (cc e);
+      exists = λ e. new.0;
+      bytes_stay = λ bytes. ((λ h. cc h), back ∙ new.1 ∙ sym (has_bytes before bytes));
+      no_memory = λ e. absurd (cc e);
+    },
+  )
   new_settled (Err (stops.Refused place)) new fault = absurd new
   new_settled (Err stops.Full) new fault = absurd new
   new_settled (Err stops.Fault) new fault = inr (fault refl)
-  new_settled (Err stops.NoMemory) new fault = inl (ended 5, inr (inr (inl refl)), (λ h. cc h), record {
-    done = λ e. absurd (cc e);
-    exists = λ e. absurd (cc e);
-    bytes_stay = λ bytes. ((λ h. cc h), back ∙ new ∙ sym (has_bytes before bytes));
-    no_memory = λ e. ap or_empty (back ∙ new);
-  })
+  new_settled (Err stops.NoMemory) new fault = inl (
+    ended 5,
+    inr (inr (inl refl)),
+    (λ h. cc h),
+    record {
+      done = λ e. absurd (cc e);
+      exists = λ e. absurd (cc e);
+      bytes_stay = λ bytes. ((λ h. cc h), back ∙ new ∙ sym (has_bytes before bytes));
+      no_memory = λ e. ap or_empty (back ∙ new);
+    },
+  )
 
   -- the new file is as an end without a fault leaves it, unless its disk failed
   pub wrote_settled : (o0 : Option (List ℕ)) (stands : Bool) (r last : Result Bool Stop) → o0 ≡ Some (or_empty before) → IfSome o0 (λ f. NewWritten image f o1 r) → last ≡ counted_answer stands r → (last ≡ Err stops.Fault → P)
       → ((end : Finish) × IsWriteEnd end × (end.status ≢ 4) × WroteNew image before after end) ⊎ P
   wrote_settled o0 stands r last taken written is fault =
       new_settled last (subst (λ (x : Result Bool Stop). NewWritten image (or_empty before) o1 x) (sym is) (counted_new image (or_empty before) o1 stands r (told_call o0 (or_empty before) (λ f. NewWritten image f o1 r) taken written))) fault
+
+module _ (image : List ℕ) (before after o1 : Option (List ℕ)) (back : after ≡ o1) where
+  bytes_kept : (last : Result Bool Stop) → NewWritten image (or_empty before) o1 last → or_empty before ≢ [] → after ≡ before
+  bytes_kept (Ok true) new bytes = absurd (bytes new.0)
+  bytes_kept (Ok false) new bytes = back ∙ new.1 ∙ sym (has_bytes before bytes)
+  bytes_kept (Err (stops.Refused place)) new bytes = absurd new
+  bytes_kept (Err stops.Full) new bytes = absurd new
+  bytes_kept (Err stops.Fault) new bytes = back ∙ new bytes ∙ sym (has_bytes before bytes)
+  bytes_kept (Err stops.NoMemory) new bytes = back ∙ new ∙ sym (has_bytes before bytes)
+
+  -- how the writing ended
+  pub wrote_by : (o0 : Option (List ℕ)) (stands : Bool) (r last : Result Bool Stop) (finish : Finish) → o0 ≡ Some (or_empty before) → IfSome o0 (λ f. NewWritten image f o1 r) → last ≡ counted_answer stands r
+      → (finish.status ≡ 0 → last ≡ Ok true) → (finish.status ≡ 7 → last ≡ Ok false) → (finish.status ≡ 5 → last ≡ Err stops.NoMemory) → WroteNew image before after finish
+  wrote_by o0 stands r last finish taken written is zero seven five =
+      let new : NewWritten image (or_empty before) o1 last = subst (λ (x : Result Bool Stop). NewWritten image (or_empty before) o1 x) (sym is) (counted_new image (or_empty before) o1 stands r (told_call o0 (or_empty before) (λ f. NewWritten image f o1 r) taken written)) in
+      let as_true : last ≡ Ok true → (or_empty before ≡ []) × IsRestored image o1 = λ e. subst (λ (x : Result Bool Stop). NewWritten image (or_empty before) o1 x) e new in
+      let as_false : last ≡ Ok false → (or_empty before ≢ []) × (o1 ≡ Some (or_empty before)) = λ e. subst (λ (x : Result Bool Stop). NewWritten image (or_empty before) o1 x) e new in
+      let as_memory : last ≡ Err stops.NoMemory → o1 ≡ Some (or_empty before) = λ e. subst (λ (x : Result Bool Stop). NewWritten image (or_empty before) o1 x) e new in
+      record {
+        done = λ e. subst (λ (o : Option (List ℕ)). IsRestored image o) (sym back) (as_true (zero e)).1;
+        exists = λ e. (as_false (seven e)).0;
+        bytes_stay = λ bytes. ((λ e. bytes (as_true (zero e)).0), bytes_kept last new bytes);
+        no_memory = λ e. ap or_empty (back ∙ as_memory (five e));
+      }
+
+-- a file of no length is empty
+pub empty_by : (o p : Option (List ℕ)) (n : ℕ) → p ≡ o → IfSome o (λ f. n ≡ length f) → n ≤ 0 → IfSome p (λ f. f ≡ [])
+empty_by o p n same long short = subst (λ (x : Option (List ℕ)). IfSome x (λ f. f ≡ [])) (sym same) (empty_of o long)
+  where
+    empty_list : (f : List ℕ) → n ≡ length f → f ≡ []
+    empty_list [] is = refl
+    empty_list (x ∷ f) is = absurd (omega (arith, is, short))
+
+    empty_of : (x : Option (List ℕ)) → IfSome x (λ f. n ≡ length f) → IfSome x (λ f. f ≡ [])
+    empty_of None long = tt
+    empty_of (Some f) long = empty_list f long
+
+-- a new file that was written
+pub new_written : (image : List ℕ) (o p new : Option (List ℕ)) (n : ℕ) → p ≡ o → IfSome p (λ f. f ≡ []) → IfSome p (λ _. IsSomeAnd new (λ file. IsRestoredFrom image file n)) → IfSome o (λ f. NewWritten image f new (Ok true))
+new_written image o p new n same empty restored = subst (λ (x : Option (List ℕ)). IfSome x (λ f. NewWritten image f new (Ok true))) same (there_written p empty restored)
+  where
+    as_new : (x : Option (List ℕ)) → IsSomeAnd x (λ file. IsRestoredFrom image file n) → IsRestored image x
+    as_new None from = absurd from
+    as_new (Some file) from = record { head = from.head; was = from.was; is = ap (λ (l : List ℕ). Some l) from.is }
+
+    there_written : (x : Option (List ℕ)) → IfSome x (λ f. f ≡ []) → IfSome x (λ _. IsSomeAnd new (λ file. IsRestoredFrom image file n)) → IfSome x (λ f. NewWritten image f new (Ok true))
+    there_written None empty restored = tt
+    there_written (Some f) empty restored = (empty, as_new new restored)
 
 -- what holds where it was written
 pub counted_true : {P : Type 0} (stands b : Bool) (r last : Result Bool Stop) → last ≡ counted_answer stands r → last ≡ Ok b → b ≡ true → IfOk r (λ b. b ≡ true → P) → P
@@ -197,6 +260,20 @@ stopped_end stops.NoMemory (Err x) finish may is k four five e = not_status fini
 pub write_stopped : (stands : Bool) (r last : Result Bool Stop) (stop : Stop) (given : Result (Unit {0}) DiskError) (finish : Finish) → IfErr r IsWriteStop → last ≡ counted_answer stands r → last ≡ Err stop → finish ≡ call_end (Err stop) given → (k : ℕ) → k ≢ 4 → k ≢ 5 → finish.status ≡ k → ⊥
 write_stopped stands r last stop given finish may is err at =
     stopped_end stop given finish (subst (λ (x : Result Bool Stop). IfErr x IsWriteStop) err (subst (λ (x : Result Bool Stop). IfErr x IsWriteStop) (sym is) (counted_stop stands r may))) at
+
+abbrev pub is_err : Stop → Result Bool Stop
+is_err stop = Err stop
+
+-- want of memory
+pub memory_stop : (stop : Stop) (given : Result (Unit {0}) DiskError) (finish : Finish) → finish ≡ call_end (Err stop) given → finish.status ≡ 5 → is_err stop ≡ is_err stops.NoMemory
+memory_stop stop given finish is e = ap is_err (by_memory stop given is)
+  where
+    by_memory : (s : Stop) (given : Result (Unit {0}) DiskError) → finish ≡ call_end (Err s) given → s ≡ stops.NoMemory
+    by_memory (stops.Refused place) given at = absurd (not_status finish (refused_at 0 place) 5 at (λ h. cc h) e)
+    by_memory stops.Full (Ok g) at = absurd (not_status finish (answered 21) 5 at (λ h. cc h) e)
+    by_memory stops.Full (Err x) at = absurd (not_status finish (ended 4) 5 at (λ h. cc h) e)
+    by_memory stops.Fault given at = absurd (not_status finish (ended 4) 5 at (λ h. cc h) e)
+    by_memory stops.NoMemory given at = refl
 
 -- ---- the command
 
@@ -240,16 +317,20 @@ module _ (c : RestoreWords) (before after : World) (only : OnlyFile c.to before 
 
   -- nothing was written
   pub unread_settled : {Q : Type 0} → after.files c.to ≡ before.files c.to → ((end : Finish) × IsClearEnd (Restore c) end.status × RanRestore c before after end) ⊎ Q
-  unread_settled same = inl (ended 5, inr (inr (inl refl)), record {
-    done = λ e. absurd (cc e);
-    refused = λ e. absurd (cc e);
-    exists = λ e. absurd (cc e);
-    sound = λ either. absurd (elim either [ inl e ↦ cc e | inr e ↦ cc e ]);
-    bytes_stay = λ bytes. ((λ h. cc h), same);
-    unmade = λ either. same;
-    no_memory = λ e. ap or_empty same;
-    only = only;
-  })
+  unread_settled same = inl (
+    ended 5,
+    inr (inr (inl refl)),
+    record {
+      done = λ e. absurd (cc e);
+      refused = λ e. absurd (cc e);
+      exists = λ e. absurd (cc e);
+      sound = λ either. absurd (elim either [ inl e ↦ cc e | inr e ↦ cc e ]);
+      bytes_stay = λ bytes. ((λ h. cc h), same);
+      unmade = λ either. same;
+      no_memory = λ e. ap or_empty same;
+      only = only;
+    },
+  )
 
 -- only the new file is another
 pub only_to : (old mid new : List ℕ → Option (List ℕ)) (name : List ℕ) → ((m : List ℕ) → mid m ≡ old m) → SameBut name mid new → SameBut name old new

@@ -1,8 +1,8 @@
 -- What the steps of `restore` do.
 use Rattle.std.specs.Prelude.{◌≡◌, ◌≢◌, ◌⊎◌, ℕ, Bool, true, false, List, [], Option, Some, None, Result, Ok, Err}
 use Rattle.tk_disk.specs.Folder.{or_empty}
-use Rattle.tk_restore.specs.Restoration.{IsReadFrom}
-use Rattle.tk_restore.specs.declared.Restoration.{Restoration}
+use Rattle.tk_restore.specs.Reading.{IsReadFrom}
+use Rattle.tk_restore.specs.declared.restore.Restoration.{Restoration}
 use Rattle.tk_status.specs.declared.finish.Finish.{Finish}
 use Rattle.tk_status.specs.Finish.{ended, refused_at, exists_at}
 use Rattle.tk_util.specs.Ran.{IsRestored, restore_fault}

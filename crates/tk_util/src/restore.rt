@@ -3,7 +3,7 @@ ghost use Rattle.std.specs.Prelude.{◌≡◌, ◌≢◌, ◌⊎◌, ℕ, List, 
 ghost use Rattle.std.specs.Option.{is_some};
 ghost use Rattle.tk_disk.specs.Crash.{Within, Only};
 ghost use Rattle.tk_disk.specs.Folder.{NoneOut, SameBut, or_empty};
-ghost use Rattle.tk_restore.specs.Restoration.{IsReadFrom};
+ghost use Rattle.tk_restore.specs.Reading.{IsFit, IsReadFrom};
 ghost use Rattle.tk_util.specs.Asked.{restore_said};
 ghost use Rattle.tk_disk.specs.Disk.{Rose};
 ghost use Rattle.tk_status.specs.declared.finish.Finish.{Finish as End};
@@ -25,6 +25,7 @@ use tk_status::Finish;
 /// Reads what a file is restored to. A file that is updated in place is refused by its kind.
 fn read_image<D: Disk>(alloc: Global, from: &mut D) -> Result<Restoration, Stop>
     ensures read { IfSome (D.image from.old) (λ f. ImageRead f result) }
+    ensures fits { IfOk result IsFit }
     ensures stops { IfErr result IsReadStop }
     ensures image { D.image from.new ≡ D.image from.old }
     ensures still { Within (D.may_leave from.old) (D.may_leave from.new) }
@@ -44,6 +45,7 @@ fn read_image<D: Disk>(alloc: Global, from: &mut D) -> Result<Restoration, Stop>
 
 /// Writes the new file where the disk is empty, and answers whether it was.
 fn write_new<D: Disk>(alloc: Global, restoration: &Restoration, to: &mut D) -> Result<bool, Stop>
+    requires fits { IsFit restoration.now }
     ensures written { (image : List ℕ) → IsReadFrom image restoration.now → IfSome (D.image to.old) (λ f. NewWritten image f (D.image to.new) result) }
     ensures stops { IfErr result IsWriteStop }
     ensures unwritten { IfSome (D.image to.old) (λ f. f ≢ [] → Within (D.may_leave to.old) (D.may_leave to.new)) }
@@ -54,14 +56,17 @@ fn write_new<D: Disk>(alloc: Global, restoration: &Restoration, to: &mut D) -> R
     if to.len()? > 0 {
         return Ok(false);
     }
-    write_restoration(alloc, restoration, to)?;
-    Ok(true)
+    match write_restoration(alloc, restoration, to) {
+        Ok(_) => Ok(true),
+        Err(error) => Err(unopened(error)),
+    }
 }
 
 /// Takes what a file is restored to out of its folder.
 fn read_from<F: Folder>(alloc: Global, folder: &mut F, name: &str) -> Result<Restoration, Finish>
     requires home { NoneOut (F.is_out folder.old) }
     ensures read { F.tells folder.old ≡ true → IfOk result (λ r. IsReadFrom (or_empty (F.file folder.old name.now)) r × (restore_fault (or_empty (F.file folder.old name.now)) ≡ None)) }
+    ensures fits { IfOk result IsFit }
     ensures stopped { IfErr result (ReadStopped (F.tells folder.old) (F.file folder.old name.now)) }
     ensures files { F.tells folder.old ≡ true → (m : List ℕ) → F.file folder.new m ≡ F.file folder.old m }
     ensures crash { (m : List ℕ) → Within (F.leaves folder.old m) (F.leaves folder.new m) }
@@ -93,6 +98,7 @@ fn write_to<F: Folder>(
     folder: &mut F,
     name: &str,
 ) -> Finish
+    requires fits { IsFit restoration.now }
     requires home { NoneOut (F.is_out folder.old) }
     ensures wrote { F.tells folder.old ≡ true → (image : List ℕ) → IsReadFrom image restoration.now → WroteNew image (F.file folder.old name.now) (F.file folder.new name.now) result }
     ensures settled { F.tells folder.old ≡ true → (image : List ℕ) → IsReadFrom image restoration.now

@@ -1,5 +1,4 @@
-use Rattle.std.proofs.Common.{arith}
-use Rattle.tk_util.proofs.Restoring.{fault_headless, fault_kind, is_appending, image_read, image_unread}
+use Rattle.tk_util.proofs.Restoring.{fault_headless, fault_kind, image_read, image_unread}
 use Rattle.tk_util.proofs.restore.read_image.Goals as goal
 
 pub returns-in-Ok-None-clause-read : goal.returns-in-Ok-None-clause-read

@@ -1,8 +1,5 @@
-use Rattle.std.proofs.Common.{◌≡◌, ℕ, true, List, refl, sym, ◌∙◌, ap, subst, inr}
-use Rattle.std.specs.Prelude.{Option, None}
+use Rattle.std.proofs.Common.{ℕ, refl, ◌∙◌, subst, inr}
 use Rattle.tk_disk.specs.Disk.{Rose}
-use Rattle.tk_disk.specs.Folder.{or_empty}
-use Rattle.tk_util.specs.Restoring.{WroteNew, IsWriteEnd}
 use Rattle.tk_util.proofs.OnFolder.{leaves_after}
 use Rattle.tk_util.proofs.Restoring.{restored_settled, unread_settled, only_to, settled_at}
 use Rattle.tk_util.proofs.restore.run_restore.Goals as goal

@@ -1,0 +1,54 @@
+-- The two halves of a restoring, and the whole.
+use Rattle.std.proofs.Common.{◌≡◌, ℕ, List, [], refl, sym, ◌∙◌, ap, subst}
+use Rattle.std.specs.Prelude.{length, Option, Some, None, IfSome, IfErr, IsSomeAnd, Result, Ok, Err}
+use Rattle.tk_model.specs.declared.record.Order.TheVariants.{Hash}
+use Rattle.tk_model.specs.declared.record.Pair.{Pair}
+use Rattle.tk_model.specs.declared.error.OpenError.{OpenError}
+use Rattle.tk_model.specs.declared.error.OpenError.TheVariants as errors
+use Rattle.tk_model.specs.Records.{replay}
+use Rattle.tk_block.specs.Text.{static_at}
+use Rattle.tk_block.specs.declared.head.StaticHead.{StaticHead}
+use Rattle.tk_append.specs.Fresh.{fresh_text}
+use Rattle.tk_append.specs.Read.{IsOutside, TellsResult}
+use Rattle.tk_append.specs.Restored.{groups_in}
+use Rattle.tk_restore.specs.declared.restore.Restoration.{Restoration}
+use Rattle.tk_restore.specs.Reading.{IsReadFrom}
+use Rattle.tk_restore.specs.Restoration.{IsAppending, IsRestoredFrom, OnRefusal, restored_head, restored_file}
+use Rattle.tk_restore.proofs.Fresh.{records_are, file_same}
+
+-- what was read is of the image
+pub read_is : (image : Option (List ℕ)) (found : Option StaticHead) (h : StaticHead) (pairs : List Pair) → found ≡ Some h → IfSome image (λ f. found ≡ static_at f) → IfSome image IsAppending → IfSome image (λ f. pairs ≡ replay Hash (groups_in h f) [])
+    → IfSome image (λ f. IsReadFrom f (record { head = restored_head h; pairs = pairs }))
+read_is None found h pairs some is appending records = tt
+read_is (Some f) found h pairs some is appending records = record { was = h; header = sym is ∙ some; head_is = refl; appending = appending; records = records ∙ records_are h f (sym is ∙ some) }
+
+-- what was written is restored from it
+pub written_from : (image : List ℕ) (old new : Option (List ℕ)) (r : Restoration) (count : ℕ) → IsReadFrom image r → IfSome old (λ _. new ≡ Some (fresh_text r.head r.pairs)) → count ≡ length r.pairs
+    → IfSome old (λ _. IsSomeAnd new (λ file. IsRestoredFrom image file count))
+written_from image None new r count read written counted = tt
+written_from image (Some e) new r count read written counted =
+    let file : fresh_text r.head r.pairs ≡ restored_file read.was image = ap (λ (h : StaticHead). fresh_text h r.pairs) read.head_is ∙ file_same read.was image r.pairs read.header read.appending read.records in
+    subst (λ (o : Option (List ℕ)). IsSomeAnd o (λ f. IsRestoredFrom image f count)) (sym written)
+    (record { head = read.was; was = read.header; is = file; counted = counted ∙ ap (λ (l : List Pair). length l) read.records })
+
+-- a fault or want of memory says nothing of the image
+pub outside_tells : (result : Result ℕ OpenError) (fault : Option OpenError) → fault ≡ None → IfErr result IsOutside → TellsResult result fault
+outside_tells (Ok n) fault none outside = none
+outside_tells (Err errors.NotADatabase) fault none outside = absurd outside
+outside_tells (Err (errors.BrokenAt place)) fault none outside = absurd outside
+outside_tells (Err errors.Fault) fault none outside = tt
+outside_tells (Err errors.NoMemory) fault none outside = tt
+
+pub outside_unrefused : (result : Result ℕ OpenError) (P : Type 0) → IfErr result IsOutside → IfErr result (λ e. OnRefusal e P)
+outside_unrefused (Ok n) P outside = tt
+outside_unrefused (Err errors.NotADatabase) P outside = absurd outside
+outside_unrefused (Err (errors.BrokenAt place)) P outside = absurd outside
+outside_unrefused (Err errors.Fault) P outside = tt
+outside_unrefused (Err errors.NoMemory) P outside = tt
+
+-- a refusal before anything was written
+pub refused_before : (e : OpenError) (P : Type 0) → P → OnRefusal e (Unit {0}) → OnRefusal e P
+refused_before errors.NotADatabase P p refused = p
+refused_before (errors.BrokenAt place) P p refused = (refused.0, p)
+refused_before errors.Fault P p refused = tt
+refused_before errors.NoMemory P p refused = tt

@@ -1,0 +1,8 @@
+pub mod Fresh
+pub mod Halves
+pub mod Headers
+pub mod Held
+pub mod Knowing
+pub mod Sizes
+pub mod Steps
+pub mod Whole
