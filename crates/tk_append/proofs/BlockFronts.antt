@@ -97,16 +97,16 @@ pub record IsEnough (bytes : List ℕ) : Type 0 where
 behind_head : (bytes more : List ℕ) → 24 ≤ length bytes → drop 24 (bytes ++ more) ≡ drop 24 bytes ++ more
 behind_head bytes more long = drop-append-le 24 bytes more long
 
-body_more : (bytes more : List ℕ) (place : ℕ) (b : Body) → 24 ≤ length bytes → body_at (drop 24 bytes) place ≡ Some b → body_at (drop 24 (bytes ++ more)) place ≡ Some b
+pub body_more : (bytes more : List ℕ) (place : ℕ) (b : Body) → 24 ≤ length bytes → body_at (drop 24 bytes) place ≡ Some b → body_at (drop 24 (bytes ++ more)) place ≡ Some b
 body_more bytes more place b long is =
     ap (λ (l : List ℕ). body_at l place) (behind_head bytes more long) ∙ found_more FitsBody (λ x. body_text x place) (λ l. body_at l place) (bodies place) (drop 24 bytes) more b is
 
-body_front : (bytes more : List ℕ) (place : ℕ) (b : Body) → 24 ≤ length bytes → room_of b ≤ length bytes → body_at (drop 24 (bytes ++ more)) place ≡ Some b → body_at (drop 24 bytes) place ≡ Some b
+pub body_front : (bytes more : List ℕ) (place : ℕ) (b : Body) → 24 ≤ length bytes → room_of b ≤ length bytes → body_at (drop 24 (bytes ++ more)) place ≡ Some b → body_at (drop 24 bytes) place ≡ Some b
 body_front bytes more place b long room is =
     found_front FitsBody (λ x. body_text x place) (λ l. body_at l place) (bodies place) (drop 24 bytes) more b (omega (arith, length-body_text b place, length-drop 24 bytes))
     (ap (λ (l : List ℕ). body_at l place) (sym (behind_head bytes more long)) ∙ is)
 
-head_more : (bytes more : List ℕ) (place : ℕ) → 16 ≤ length bytes → head_at (bytes ++ more) place ≡ head_at bytes place
+pub head_more : (bytes more : List ℕ) (place : ℕ) → 16 ≤ length bytes → head_at (bytes ++ more) place ≡ head_at bytes place
 head_more bytes more place long = front_enough FitsExtent (λ e. head_text e place) (λ l. head_at l place) (heads place) bytes more (λ e. omega (arith, length-head_text e place))
 
 link_more : (bytes more : List ℕ) → 24 ≤ length bytes → u64_in (bytes ++ more) 16 ≡ u64_in bytes 16

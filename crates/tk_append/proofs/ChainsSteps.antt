@@ -30,9 +30,9 @@ begun p base bodies heads links is none =
     })
 
 -- the newest block of a bucket, after a set
-newest_set : (p b slot place : ℕ) (pair : Pair) (last : Bool) (heads : List ℕ) (before : List Placed) → slot ≡ bucket_in p pair.key → slot < length heads
-    → get_or heads b 0 ≡ newest p b 0 before → get_or (set heads slot place) b 0 ≡ renewed p b (newest p b 0 before) (record { place = place; body = body_of 0 (Put pair) last })
-newest_set p b slot place pair last heads before is below was = elim (cases_eq (bucket_in p pair.key) b) [
+newest_set : (p b slot place number : ℕ) (pair : Pair) (last : Bool) (heads : List ℕ) (before : List Placed) → slot ≡ bucket_in p pair.key → slot < length heads
+    → get_or heads b 0 ≡ newest p b 0 before → get_or (set heads slot place) b 0 ≡ renewed p b (newest p b 0 before) (record { place = place; body = body_of number (Put pair) last })
+newest_set p b slot place number pair last heads before is below was = elim (cases_eq (bucket_in p pair.key) b) [
   | inl e ↦
       ap (λ (k : ℕ). get_or (set heads slot place) k 0) (sym e ∙ sym is) ∙ get_or-set_same heads slot place 0 below
       ∙ sym (ap (λ (v : Bool). cond v place (newest p b 0 before)) (eq-eqb _ _ e))
@@ -41,30 +41,30 @@ newest_set p b slot place pair last heads before is below was = elim (cases_eq (
       ∙ sym (ap (λ (v : Bool). cond v place (newest p b 0 before)) (ne_eqb _ _ ne))
 ]
 
-module _ (p base : ℕ) (each : Bool) (pairs : List Pair) (i : ℕ) (pair : Pair) (within : i < length pairs) (is : pair ≡ get_or pairs i pair) where
+module _ (p base number : ℕ) (each : Bool) (pairs : List Pair) (i : ℕ) (pair : Pair) (within : i < length pairs) (is : pair ≡ get_or pairs i pair) where
   pub chain_step : (heads links : List ℕ) (place slot extent : ℕ) → slot ≡ bucket_in p pair.key → slot < 2 ^ p → extent ≡ extent_for (44 + length pair.key + length pair.value)
-      → Chained p base (fresh_bodies each pairs) i heads links place
-      → Chained p base (fresh_bodies each pairs) (i + 1) (set heads slot place) (links ++ get_or heads slot 0 ∷ []) (place + extent)
+      → Chained p base (fresh_bodies number each pairs) i heads links place
+      → Chained p base (fresh_bodies number each pairs) (i + 1) (set heads slot place) (links ++ get_or heads slot 0 ∷ []) (place + extent)
   chain_step heads links place slot extent here below long so_far =
-      let front : List Body = take i (fresh_bodies each pairs) in
+      let front : List Body = take i (fresh_bodies number each pairs) in
       let last : Bool = each || is_nil (drop (suc i) pairs) in
       let before : List Placed = laid base front in
-      let body : Body = body_of 0 (Put pair) last in
+      let body : Body = body_of number (Put pair) last in
       record {
         heads_are = record {
           whole = length-set heads slot place ∙ so_far.heads_are.whole;
           newest_each = λ b within_p.
-              newest_set p b slot place pair last heads before here (omega (arith, below, so_far.heads_are.whole)) (so_far.heads_are.newest_each b within_p)
+              newest_set p b slot place number pair last heads before here (omega (arith, below, so_far.heads_are.whole)) (so_far.heads_are.newest_each b within_p)
               ∙ ap (λ (n : ℕ). renewed p b (newest p b 0 before) (record { place = n; body = body })) so_far.place_is
               ∙ sym (newest-append p b 0 before (record { place = end_of base front; body = body } ∷ []))
-              ∙ sym (ap (λ (l : List Placed). newest p b 0 l) (laid-more base each pairs i pair within is));
+              ∙ sym (ap (λ (l : List Placed). newest p b 0 l) (laid-more base number each pairs i pair within is));
         };
         links_are =
             ap (λ (n : ℕ). links ++ n ∷ []) (so_far.heads_are.newest_each slot below ∙ ap (λ (k : ℕ). newest p k 0 before) here)
             ∙ ap (λ (l : List ℕ). l ++ newest p (bucket_in p pair.key) 0 before ∷ []) so_far.links_are
             ∙ sym (links_of-append p [] before (record { place = end_of base front; body = body } ∷ []))
-            ∙ sym (ap (λ (l : List Placed). links_of p [] l) (laid-more base each pairs i pair within is));
+            ∙ sym (ap (λ (l : List Placed). links_of p [] l) (laid-more base number each pairs i pair within is));
         place_is =
             ap (λ (n : ℕ). place + n) long ∙ ap (λ (n : ℕ). n + extent_of body) so_far.place_is
-            ∙ sym (end_of-append base front (body ∷ [])) ∙ sym (ap (λ (l : List Body). end_of base l) (bodies-more each pairs i pair within is));
+            ∙ sym (end_of-append base front (body ∷ [])) ∙ sym (ap (λ (l : List Body). end_of base l) (bodies-more number each pairs i pair within is));
       }

@@ -254,6 +254,15 @@ closed_is kinds writable shard f found are none is =
       last = s.last;
     }
 
+-- its blocks are those of its groups
+pub closed_blocks : (kinds : List ℕ) (writable : Bool) (shard : ShardOf) (f : List ℕ) (found : Found) (are : AreBytes f) (none : first_fault kinds writable shard f ≡ None) (is : IsFound shard f found)
+    → is.w.blocks ≡ blocks_of found.head (closed_is kinds writable shard f found are none is).groups
+unfolding closed_is made
+closed_blocks kinds writable shard f found are none is =
+    let h = found.head in
+    let c = found.closing in
+    (made kinds writable shard f h c is.w are is.head is.closing is.ends is.whole (sound kinds writable shard f h c is.w is.head is.closing is.ends none)).blocks
+
 no_open : (o : Option Placed) → place_in o ≡ None → o ≡ None
 no_open None is = refl
 no_open (Some x) is = absurd (cc is)

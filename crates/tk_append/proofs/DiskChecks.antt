@@ -15,13 +15,13 @@ use Rattle.tk_append.specs.Opening.{Walk, Outcome, FailsAt, Ends, walk, first_fa
 use Rattle.tk_append.specs.Log.{TellsCause}
 use Rattle.tk_append.specs.Read.{IsClosedOn, TellsResult}
 use Rattle.tk_append.specs.Walked.{Shows, WalkedAll, WalkFails}
-use Rattle.tk_append.specs.Checked.{Finds, FindsCause, HeadIn, IsFront, HasHeads, HeadFails}
+use Rattle.tk_append.specs.Checked.{Finds, FindsCause, HeadIn, IsFront, IsFound, HasHeads, HeadFails}
 use Rattle.tk_append.specs.declared.check.Found.{Found}
 use Rattle.tk_append.specs.declared.walker.Walker.{Walker}
 use Rattle.tk_append.proofs.Windows.{starts, shows_both}
 use Rattle.tk_append.proofs.Scans.{small_both}
 use Rattle.tk_append.proofs.Checked.{to_the_end, end_told, short_file}
-use Rattle.tk_append.proofs.ClosedFiles.{closed_is}
+use Rattle.tk_append.proofs.ClosedFiles.{closed_is, closed_blocks}
 
 if_some : (o : Option (List ℕ)) (P Q : List ℕ → Type 0) → IfSome o P → ((f : List ℕ) → P f → Q f) → IfSome o Q
 if_some None P Q holds more = tt
@@ -115,21 +115,24 @@ module _ (image : Option (List ℕ)) (kinds : List ℕ) (writable : Bool) (shard
       (λ f is long.
       sym (take_all (length bytes) f (omega (arith, long, length_whole fr e.heads all.blocks (base_of found.head.p) e.len all.whole))) ∙ is)
 
-  pub closed_on : (fr : IsFront image kinds found) (all : WalkedAll image found.head shard found.closing.size walker) → HasHeads image found.head all.w found.closing writable → IsClosedOn image kinds writable shard found
-  closed_on fr all e =
+  pub closed_on : (heads : List ℕ) (fr : IsFront image kinds found) (all : WalkedAll image found.head shard found.closing.size walker) → HasHeads image found.head all.w found.closing writable → HeadsAre found.head.p heads all.w.blocks
+      → IsClosedOn image kinds writable shard found heads
+  closed_on heads fr all e newest =
       let f = whole_of fr.front e.heads all.blocks in
       let front : StartsWith f fr.front = starts f fr.front (e.heads ++ all.blocks) refl in
       let size = length_whole fr e.heads all.blocks (base_of found.head.p) e.len all.whole in
+      let small = small_both fr.front (e.heads ++ all.blocks) fr.small (small_both e.heads all.blocks e.small all.small) in
+      let is : IsFound shard f found = record {
+        head = (fr.head f front).head;
+        closing = (fr.closing f front size).closing;
+        w = all.w;
+        ends = all.ends f (behind_heads fr e.heads all.blocks (base_of found.head.p) e.len);
+        whole = e.whole;
+      } in
       record {
         bytes = f;
-        closed = closed_is kinds writable shard f found (small_both fr.front (e.heads ++ all.blocks) fr.small (small_both e.heads all.blocks e.small all.small)) (sound_bytes fr all e)
-            (record {
-              head = (fr.head f front).head;
-              closing = (fr.closing f front size).closing;
-              w = all.w;
-              ends = all.ends f (behind_heads fr e.heads all.blocks (base_of found.head.p) e.len);
-              whole = e.whole;
-            });
+        closed = closed_is kinds writable shard f found small (sound_bytes fr all e) is;
+        heads_are = subst (HeadsAre found.head.p heads) (closed_blocks kinds writable shard f found small (sound_bytes fr all e) is) newest;
         told = told_bytes fr all e;
       }
 

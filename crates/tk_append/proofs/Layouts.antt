@@ -15,21 +15,21 @@ use Rattle.tk_block.proofs.Layouts.{laid-append, end_of-append, length-laid, tex
 use Rattle.tk_block.proofs.Lengths.{length-block_text}
 
 -- one block more of fresh records
-pub fresh-take : (each : Bool) (pairs : List Pair) (i : ℕ) (d : Pair) → i < length pairs
-    → take (suc i) (fresh_bodies each pairs) ≡ take i (fresh_bodies each pairs) ++ body_of 0 (Put (get_or pairs i d)) (each || is_nil (drop (suc i) pairs)) ∷ []
-fresh-take each [] i d within = absurd (omega arith)
-fresh-take each (p ∷ ps) zero d within = refl
-fresh-take each (p ∷ ps) (suc i) d within = ap (λ (l : List Body). body_of 0 (Put p) (each || is_nil ps) ∷ l) (fresh-take each ps i d (omega arith))
+pub fresh-take : (number : ℕ) (each : Bool) (pairs : List Pair) (i : ℕ) (d : Pair) → i < length pairs
+    → take (suc i) (fresh_bodies number each pairs) ≡ take i (fresh_bodies number each pairs) ++ body_of number (Put (get_or pairs i d)) (each || is_nil (drop (suc i) pairs)) ∷ []
+fresh-take number each [] i d within = absurd (omega arith)
+fresh-take number each (p ∷ ps) zero d within = refl
+fresh-take number each (p ∷ ps) (suc i) d within = ap (λ (l : List Body). body_of number (Put p) (each || is_nil ps) ∷ l) (fresh-take number each ps i d (omega arith))
 
-pub bodies-more : (each : Bool) (pairs : List Pair) (i : ℕ) (pair : Pair) → i < length pairs → pair ≡ get_or pairs i pair
-    → take (i + 1) (fresh_bodies each pairs) ≡ take i (fresh_bodies each pairs) ++ body_of 0 (Put pair) (each || is_nil (drop (suc i) pairs)) ∷ []
-bodies-more each pairs i pair within is =
-    ap (λ (k : ℕ). take k (fresh_bodies each pairs)) (add-one i) ∙ fresh-take each pairs i pair within
-    ∙ ap (λ (q : Pair). take i (fresh_bodies each pairs) ++ body_of 0 (Put q) (each || is_nil (drop (suc i) pairs)) ∷ []) (sym is)
+pub bodies-more : (number : ℕ) (each : Bool) (pairs : List Pair) (i : ℕ) (pair : Pair) → i < length pairs → pair ≡ get_or pairs i pair
+    → take (i + 1) (fresh_bodies number each pairs) ≡ take i (fresh_bodies number each pairs) ++ body_of number (Put pair) (each || is_nil (drop (suc i) pairs)) ∷ []
+bodies-more number each pairs i pair within is =
+    ap (λ (k : ℕ). take k (fresh_bodies number each pairs)) (add-one i) ∙ fresh-take number each pairs i pair within
+    ∙ ap (λ (q : Pair). take i (fresh_bodies number each pairs) ++ body_of number (Put q) (each || is_nil (drop (suc i) pairs)) ∷ []) (sym is)
 
-pub length-fresh_bodies : (each : Bool) (pairs : List Pair) → length (fresh_bodies each pairs) ≡ length pairs
-length-fresh_bodies each [] = refl
-length-fresh_bodies each (p ∷ ps) = ap suc (length-fresh_bodies each ps)
+pub length-fresh_bodies : (number : ℕ) (each : Bool) (pairs : List Pair) → length (fresh_bodies number each pairs) ≡ length pairs
+length-fresh_bodies number each [] = refl
+length-fresh_bodies number each (p ∷ ps) = ap suc (length-fresh_bodies number each ps)
 
 pub small_at : (pairs : List Pair) (i : ℕ) (d : Pair) → AllPairsSmall pairs → i < length pairs → IsSmall (get_or pairs i d).key (get_or pairs i d).value
 small_at [] i d small within = absurd (omega arith)
@@ -60,19 +60,19 @@ pub length-grown : (new old : List ℕ) (b : Body) (place link : ℕ) → new �
 length-grown new old b place link is = omega (arith, ap length is, length-append old (block_text b place link), length-block_text b place link)
 
 -- the end behind one record more
-pub end_of-more : (place : ℕ) (each : Bool) (pairs : List Pair) (i : ℕ) (pair : Pair) (last : Bool) → i < length pairs → pair ≡ get_or pairs i pair
-    → end_of place (take (i + 1) (fresh_bodies each pairs)) ≡ end_of place (take i (fresh_bodies each pairs)) + extent_of (body_of 0 (Put pair) last)
-end_of-more place each pairs i pair last within is =
-    ap (λ (l : List Body). end_of place l) (bodies-more each pairs i pair within is)
-    ∙ end_of-append place (take i (fresh_bodies each pairs)) (body_of 0 (Put pair) (each || is_nil (drop (suc i) pairs)) ∷ [])
+pub end_of-more : (place number : ℕ) (each : Bool) (pairs : List Pair) (i : ℕ) (pair : Pair) (last : Bool) → i < length pairs → pair ≡ get_or pairs i pair
+    → end_of place (take (i + 1) (fresh_bodies number each pairs)) ≡ end_of place (take i (fresh_bodies number each pairs)) + extent_of (body_of number (Put pair) last)
+end_of-more place number each pairs i pair last within is =
+    ap (λ (l : List Body). end_of place l) (bodies-more number each pairs i pair within is)
+    ∙ end_of-append place (take i (fresh_bodies number each pairs)) (body_of number (Put pair) (each || is_nil (drop (suc i) pairs)) ∷ [])
 
 -- the blocks with one record more
-pub laid-more : (base : ℕ) (each : Bool) (pairs : List Pair) (i : ℕ) (pair : Pair) → i < length pairs → pair ≡ get_or pairs i pair
-    → laid base (take (i + 1) (fresh_bodies each pairs))
-    ≡ laid base (take i (fresh_bodies each pairs)) ++ record { place = end_of base (take i (fresh_bodies each pairs)); body = body_of 0 (Put pair) (each || is_nil (drop (suc i) pairs)) } ∷ []
-laid-more base each pairs i pair within is =
-    ap (λ (l : List Body). laid base l) (bodies-more each pairs i pair within is)
-    ∙ laid-append base (take i (fresh_bodies each pairs)) (body_of 0 (Put pair) (each || is_nil (drop (suc i) pairs)) ∷ [])
+pub laid-more : (base number : ℕ) (each : Bool) (pairs : List Pair) (i : ℕ) (pair : Pair) → i < length pairs → pair ≡ get_or pairs i pair
+    → laid base (take (i + 1) (fresh_bodies number each pairs))
+    ≡ laid base (take i (fresh_bodies number each pairs)) ++ record { place = end_of base (take i (fresh_bodies number each pairs)); body = body_of number (Put pair) (each || is_nil (drop (suc i) pairs)) } ∷ []
+laid-more base number each pairs i pair within is =
+    ap (λ (l : List Body). laid base l) (bodies-more number each pairs i pair within is)
+    ∙ laid-append base (take i (fresh_bodies number each pairs)) (body_of number (Put pair) (each || is_nil (drop (suc i) pairs)) ∷ [])
 
 first-drop : (links : List ℕ) (i : ℕ) → first_or_none (drop i links) ≡ get_or links i 0
 first-drop [] i = ap first_or_none (drop-nil i)
@@ -80,33 +80,33 @@ first-drop (x ∷ xs) zero = refl
 first-drop (x ∷ xs) (suc i) = first-drop xs i
 
 -- the text with one record more
-pub texts-more : (base : ℕ) (each : Bool) (pairs : List Pair) (links : List ℕ) (i : ℕ) (pair : Pair) (last : Bool) (place link : ℕ) (text : List ℕ)
-    → i < length pairs → pair ≡ get_or pairs i pair → last ≡ (each || eqb (i + 1) (length pairs)) → place ≡ end_of base (take i (fresh_bodies each pairs)) → link ≡ get_or links i 0
-    → (text ++ texts (laid base (take i (fresh_bodies each pairs))) links) ++ block_text (body_of 0 (Put pair) last) place link
-    ≡ text ++ texts (laid base (take (i + 1) (fresh_bodies each pairs))) links
-texts-more base each pairs links i pair last place link text within is flagged placed linked =
-    let before : List Placed = laid base (take i (fresh_bodies each pairs)) in
-    let count : length before ≡ i = length-laid base (take i (fresh_bodies each pairs)) ∙ omega (arith, length-take i (fresh_bodies each pairs), length-fresh_bodies each pairs) in
-    let tail : block_text (body_of 0 (Put pair) last) place link
-    ≡ texts (record { place = end_of base (take i (fresh_bodies each pairs)); body = body_of 0 (Put pair) (each || is_nil (drop (suc i) pairs)) } ∷ []) (drop (length before) links) =
-    ap (λ (b : Bool). block_text (body_of 0 (Put pair) b) place link) (flagged ∙ ap (λ (b : Bool). each || b) (sym (flag_at pairs i within)))
-    ∙ ap (λ (n : ℕ). block_text (body_of 0 (Put pair) (each || is_nil (drop (suc i) pairs))) n link) placed
-    ∙ ap (λ (n : ℕ). block_text (body_of 0 (Put pair) (each || is_nil (drop (suc i) pairs))) (end_of base (take i (fresh_bodies each pairs))) n)
+pub texts-more : (base number : ℕ) (each : Bool) (pairs : List Pair) (links : List ℕ) (i : ℕ) (pair : Pair) (last : Bool) (place link : ℕ) (text : List ℕ)
+    → i < length pairs → pair ≡ get_or pairs i pair → last ≡ (each || eqb (i + 1) (length pairs)) → place ≡ end_of base (take i (fresh_bodies number each pairs)) → link ≡ get_or links i 0
+    → (text ++ texts (laid base (take i (fresh_bodies number each pairs))) links) ++ block_text (body_of number (Put pair) last) place link
+    ≡ text ++ texts (laid base (take (i + 1) (fresh_bodies number each pairs))) links
+texts-more base number each pairs links i pair last place link text within is flagged placed linked =
+    let before : List Placed = laid base (take i (fresh_bodies number each pairs)) in
+    let count : length before ≡ i = length-laid base (take i (fresh_bodies number each pairs)) ∙ omega (arith, length-take i (fresh_bodies number each pairs), length-fresh_bodies number each pairs) in
+    let tail : block_text (body_of number (Put pair) last) place link
+    ≡ texts (record { place = end_of base (take i (fresh_bodies number each pairs)); body = body_of number (Put pair) (each || is_nil (drop (suc i) pairs)) } ∷ []) (drop (length before) links) =
+    ap (λ (b : Bool). block_text (body_of number (Put pair) b) place link) (flagged ∙ ap (λ (b : Bool). each || b) (sym (flag_at pairs i within)))
+    ∙ ap (λ (n : ℕ). block_text (body_of number (Put pair) (each || is_nil (drop (suc i) pairs))) n link) placed
+    ∙ ap (λ (n : ℕ). block_text (body_of number (Put pair) (each || is_nil (drop (suc i) pairs))) (end_of base (take i (fresh_bodies number each pairs))) n)
     (linked ∙ sym (first-drop links i) ∙ ap (λ (k : ℕ). first_or_none (drop k links)) (sym count))
     ∙ sym (append-nil _) in
-    append_assoc text (texts before links) (block_text (body_of 0 (Put pair) last) place link)
+    append_assoc text (texts before links) (block_text (body_of number (Put pair) last) place link)
     ∙ ap (λ (l : List ℕ). text ++ (texts before links ++ l)) tail
     ∙ ap (λ (l : List ℕ). text ++ l) (sym (texts-append before _ links))
-    ∙ ap (λ (l : List Placed). text ++ texts l links) (sym (laid-more base each pairs i pair within is))
+    ∙ ap (λ (l : List Placed). text ++ texts l links) (sym (laid-more base number each pairs i pair within is))
 
 -- all records
-pub taken_all : (each : Bool) (pairs : List Pair) (i : ℕ) → length pairs ≤ i → take i (fresh_bodies each pairs) ≡ fresh_bodies each pairs
-taken_all each pairs i past = take_all i (fresh_bodies each pairs) (omega (arith, length-fresh_bodies each pairs))
+pub taken_all : (number : ℕ) (each : Bool) (pairs : List Pair) (i : ℕ) → length pairs ≤ i → take i (fresh_bodies number each pairs) ≡ fresh_bodies number each pairs
+taken_all number each pairs i past = take_all i (fresh_bodies number each pairs) (omega (arith, length-fresh_bodies number each pairs))
 
--- where blocks end does not hang on their flags
-pub end_of-each : (place : ℕ) (each other : Bool) (pairs : List Pair) → end_of place (fresh_bodies each pairs) ≡ end_of place (fresh_bodies other pairs)
-end_of-each place each other [] = refl
-end_of-each place each other (p ∷ ps) = end_of-each (place + extent_of (body_of 0 (Put p) true)) each other ps
+-- where blocks end does not hang on their number and flags
+pub end_of-each : (place number n : ℕ) (each other : Bool) (pairs : List Pair) → end_of place (fresh_bodies number each pairs) ≡ end_of place (fresh_bodies n other pairs)
+end_of-each place number n each other [] = refl
+end_of-each place number n each other (p ∷ ps) = end_of-each (place + extent_of (body_of number (Put p) true)) number n each other ps
 
 -- no end is before the base
 pub end_of-least : (place : ℕ) (bodies : List Body) → place ≤ end_of place bodies

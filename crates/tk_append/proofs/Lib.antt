@@ -3,6 +3,9 @@ pub mod ChainsSteps
 pub mod Checked
 pub mod ClosedFiles
 pub mod DiskChecks
+pub mod Fair
+pub mod FairPasts
+pub mod FreshPasts
 pub mod FreshSteps
 pub mod Fronts
 pub mod Groupings
@@ -10,7 +13,9 @@ pub mod HeadSteps
 pub mod KeySteps
 pub mod Layouts
 pub mod LogSteps
+pub mod Nameless
 pub mod NewestHeads
+pub mod PastSteps
 pub mod PiecesSteps
 pub mod Readings
 pub mod Reopened

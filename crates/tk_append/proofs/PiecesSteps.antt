@@ -1,8 +1,10 @@
 -- Text that goes to a disk in pieces, and a part more.
-use Rattle.std.proofs.Common.{◌≡◌, ℕ, zero, suc, ◌+◌, ◌<◌, List, [], ◌∷◌, ◌++◌, length, get_or, take, sym, ◌∙◌, ap, arith, add-one, append_assoc}
+use Rattle.std.proofs.Common.{◌≡◌, ℕ, zero, suc, ◌+◌, ◌<◌, List, [], ◌∷◌, ◌++◌, length, get_or, take, refl, sym, ◌∙◌, ap, subst, arith, add-one, append_assoc}
 use Rattle.std.specs.Prelude.{Option, Some, None, IfSome}
+use Rattle.std.specs.Option.{option_map}
+use Rattle.tk_disk.specs.Disk.{put_at}
 use Rattle.std.specs.Int.{w64, to_be_bytes}
-use Rattle.std.proofs.lemmas.List.{append-nil}
+use Rattle.std.proofs.lemmas.List.{append-nil, drop_all}
 use Rattle.tk_append.specs.Pieces.{Holds, words_text}
 
 pub holds_more : (image : Option (List ℕ)) (at : ℕ) (waiting more text : List ℕ) → Holds image at waiting text → Holds image at (waiting ++ more) (text ++ more)
@@ -27,7 +29,12 @@ is_text : (new : Option (List ℕ)) (at : ℕ) (text : List ℕ) → Holds new a
 is_text None at text holds = absurd holds
 is_text (Some g) at text holds = ap (λ (l : List ℕ). Some l) (sym (append-nil g) ∙ holds.0)
 
--- an empty disk to which a text was written in pieces
-pub all_written : (old new : Option (List ℕ)) (at : ℕ) (first text : List ℕ) → IfSome old (λ f. f ≡ []) → (Holds old 0 first first → Holds new at [] text) → IfSome old (λ _. new ≡ Some text)
-all_written None new at first text empty written = tt
-all_written (Some f) new at first text empty written = is_text new at text (written (ap (λ (l : List ℕ). l ++ first) empty, ap length empty))
+-- an empty disk to which a first text was written, and the rest in pieces
+pub whole_written : (old mid new : Option (List ℕ)) (at : ℕ) (first text : List ℕ) → IfSome old (λ f. f ≡ []) → mid ≡ option_map (put_at 0 first) old → (Holds mid (length first) [] first → Holds new at [] text)
+    → IfSome old (λ _. new ≡ Some text)
+whole_written None mid new at first text empty put written = tt
+whole_written (Some f) mid new at first text empty put written =
+    let is : mid ≡ Some first =
+    put ∙ ap (λ (l : List ℕ). Some (put_at 0 first l)) empty
+    ∙ ap (λ (l : List ℕ). Some (first ++ l)) (drop_all (0 + length first) [] (omega arith)) ∙ ap (λ (l : List ℕ). Some l) (append-nil first) in
+    is_text new at text (written (subst (λ (o : Option (List ℕ)). Holds o (length first) [] first) (sym is) (append-nil first, refl)))

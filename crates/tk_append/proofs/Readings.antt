@@ -1,6 +1,7 @@
 -- The log of a file that was read has its groups.
 use Rattle.std.proofs.Common.{◌≡◌, ◌<◌, ◌^◌, ◌≤◌, ℕ, List, [], ◌++◌, length, drop, refl, sym, ◌∙◌, ap, subst, arith, append_assoc}
 use Rattle.std.specs.Prelude.{Bool, Option, Some, None, IfSome}
+use Rattle.std.specs.Global.{Vec}
 use Rattle.std.proofs.lemmas.List.{drop_at, length-append}
 use Rattle.tk_model.specs.declared.record.Group.{Group}
 use Rattle.tk_model.specs.declared.record.ShardOf.{ShardOf}
@@ -12,6 +13,7 @@ use Rattle.tk_block.proofs.Grammar.{length-static_text, length-closing_text}
 use Rattle.tk_block.proofs.Lengths.{length-heads_text, length-file_text}
 use Rattle.tk_disk.specs.Crash.{Torn, Follows, Within}
 use Rattle.tk_append.proofs.Layouts.{end_of-least}
+use Rattle.tk_append.specs.Chains.{HeadsAre}
 use Rattle.tk_append.specs.Log.{HasGroups, AllHome, blocks_of, closed_text}
 use Rattle.tk_model.specs.Records.{replay}
 use Rattle.tk_model.specs.declared.record.Order.TheVariants.{Hash}
@@ -43,9 +45,9 @@ if_some : (o : Option (List ℕ)) (P Q : List ℕ → Type 0) → IfSome o P →
 if_some None P Q holds more = tt
 if_some (Some f) P Q holds more = more f holds
 
-pub log_stands : {D : Type 0} (image : D → Option (List ℕ)) (old : Option (List ℕ)) (log : GroupLog D) (kinds : List ℕ) (writable : Bool) (shard : ShardOf) (found : Found) (is : IsClosedOn old kinds writable shard found)
+pub log_stands : {D : Type 0} (image : D → Option (List ℕ)) (old : Option (List ℕ)) (log : GroupLog D) (kinds : List ℕ) (writable : Bool) (shard : ShardOf) (found : Found) (heads : List ℕ) (is : IsClosedOn old kinds writable shard found heads)
     → log_head log ≡ found.head → log_end log ≡ found.closing.size → image (log_disk log) ≡ old → Stands image log is.closed.groups
-log_stands image old log kinds writable shard found is head end same = record {
+log_stands image old log kinds writable shard found heads is head end same = record {
   end_is = end ∙ is.closed.size ∙ ap (λ (h : StaticHead). end_of (base_of h.p) (bodies_of is.closed.groups)) (sym head);
   there = subst (λ (o : Option (List ℕ)). IfSome o (HasGroups (log_head log) is.closed.groups)) (sym same)
       (subst (λ (h : StaticHead). IfSome old (HasGroups h is.closed.groups)) (sym head)
@@ -53,9 +55,9 @@ log_stands image old log kinds writable shard found is head end same = record {
 }
 
 -- what was read, counted
-pub counted_of : {D : Type 0} (image : D → Option (List ℕ)) (disk : D) (log : GroupLog D) (kinds : List ℕ) (writable : Bool) (shard : ShardOf) (found : Found) → IsClosedOn (image disk) kinds writable shard found
-    → log_head log ≡ found.head → log_end log ≡ found.closing.size → image (log_disk log) ≡ image disk → HasCounted image disk shard (record { log = log; count = found.closing.count; next = found.closing.next })
-counted_of image disk log kinds writable shard found is head end same =
+pub counted_of : {D : Type 0} (image : D → Option (List ℕ)) (disk : D) (log : GroupLog D) (kinds : List ℕ) (writable : Bool) (shard : ShardOf) (found : Found) (heads : Vec ℕ) → IsClosedOn (image disk) kinds writable shard found heads.items
+    → log_head log ≡ found.head → log_end log ≡ found.closing.size → image (log_disk log) ≡ image disk → HasCounted image disk shard (record { log = log; heads = heads; count = found.closing.count; next = found.closing.next })
+counted_of image disk log kinds writable shard found heads is head end same =
     let groups = is.closed.groups in
     let next = found.closing.next in
     record {
@@ -65,7 +67,8 @@ counted_of image disk log kinds writable shard found is head end same =
       legal = is.closed.legal;
       number = is.closed.number;
       count = is.closed.count;
-      stands = log_stands image (image disk) log kinds writable shard found is head end same;
+      stands = log_stands image (image disk) log kinds writable shard found heads.items is head end same;
+      heads_are = subst (λ (h : StaticHead). HeadsAre h.p heads.items (blocks_of h groups)) (sym head) is.heads_are;
       home = subst (λ (h : StaticHead). h.kind ≡ 1 → AllHome shard groups) (sym head) is.closed.home;
       text = if_some (image disk) (λ f. f ≡ is.bytes) (λ f. f ≡ closed_text (log_head log) groups next) is.told
           (λ f same_bytes. same_bytes ∙ is.closed.text ∙ ap (λ (h : StaticHead). closed_text h groups next) (sym head));

@@ -23,7 +23,7 @@ use Rattle.tk_append.specs.declared.restore.Standing.{Standing}
 use Rattle.tk_append.proofs.Restoring.{block_on, nothing_read, no_body_there, group_of}
 
 -- the group that a block ends
-abbrev ended : Placed → List Change → List Group
+abbrev pub ended : Placed → List Change → List Group
 ended x begun = cond x.body.last (group_of x.body.number (begun ++ change_in x.body ∷ []) ∷ []) []
 
 groups_by : (t : Bool) (g : Group) (xs ys us vs : List Group) (k l : List Change) (x : Placed) → xs ≡ us ++ ended x k → ys ≡ vs ++ ended x l → cond t (g ∷ xs) ys ≡ cond t (g ∷ us) vs ++ ended x (cond t k l)
@@ -31,7 +31,7 @@ groups_by true g xs ys us vs k l x one other = ap (λ (gs : List Group). g ∷ g
 groups_by false g xs ys us vs k l x one other = other
 
 -- the groups with one block more
-groups_more : (begun : List Change) (xs : List Placed) (x : Placed) → complete_groups begun (xs ++ x ∷ []) ≡ complete_groups begun xs ++ ended x (left_over begun xs)
+pub groups_more : (begun : List Change) (xs : List Placed) (x : Placed) → complete_groups begun (xs ++ x ∷ []) ≡ complete_groups begun xs ++ ended x (left_over begun xs)
 groups_more begun [] x = refl
 groups_more begun (y ∷ ys) x =
     groups_by y.body.last (group_of y.body.number (begun ++ change_in y.body ∷ [])) _ _ (complete_groups [] ys) (complete_groups (begun ++ change_in y.body ∷ []) ys)
@@ -42,12 +42,12 @@ left_by true last xs ys k l c one other = one
 left_by false last xs ys k l c one other = other
 
 -- what is begun with one block more
-left_more : (begun : List Change) (xs : List Placed) (x : Placed) → left_over begun (xs ++ x ∷ []) ≡ cond x.body.last [] (left_over begun xs ++ change_in x.body ∷ [])
+pub left_more : (begun : List Change) (xs : List Placed) (x : Placed) → left_over begun (xs ++ x ∷ []) ≡ cond x.body.last [] (left_over begun xs ++ change_in x.body ∷ [])
 left_more begun [] x = refl
 left_more begun (y ∷ ys) x =
     left_by y.body.last x.body.last _ _ (left_over [] ys) (left_over (begun ++ change_in y.body ∷ []) ys) (change_in x.body) (left_more [] ys x) (left_more (begun ++ change_in y.body ∷ []) ys x)
 
-opened_last : (o : Option Placed) (x : Placed) → x.body.last ≡ true → opened_by o x ≡ None
+pub opened_last : (o : Option Placed) (x : Placed) → x.body.last ≡ true → opened_by o x ≡ None
 opened_last None x last = ap (λ (t : Bool). cond t None (Some x)) last
 opened_last (Some first) x last = ap (λ (t : Bool). cond t None (Some first)) last
 
@@ -83,11 +83,11 @@ knows_more old new w x change knows more is begun groups before open_group = rec
   open_group = open_group;
 }
 
-opened_first : (o : Option Placed) (x : Placed) → x.body.last ≡ false → is_some (option_map as_open o) ≡ false → Some (as_open x) ≡ option_map as_open (opened_by o x)
+pub opened_first : (o : Option Placed) (x : Placed) → x.body.last ≡ false → is_some (option_map as_open o) ≡ false → Some (as_open x) ≡ option_map as_open (opened_by o x)
 opened_first None x more none = ap (λ (t : Bool). option_map as_open (cond t None (Some x))) (sym more)
 opened_first (Some first) x more none = absurd (cc none)
 
-opened_on : (o : Option Placed) (x : Placed) → x.body.last ≡ false → is_some (option_map as_open o) ≡ true → option_map as_open o ≡ option_map as_open (opened_by o x)
+pub opened_on : (o : Option Placed) (x : Placed) → x.body.last ≡ false → is_some (option_map as_open o) ≡ true → option_map as_open o ≡ option_map as_open (opened_by o x)
 opened_on None x more some = absurd (cc some)
 opened_on (Some first) x more some = ap (λ (t : Bool). option_map as_open (cond t None (Some first))) (sym more)
 
@@ -120,7 +120,7 @@ none_behind : (o : Option ℕ) (w : Walk) (place : ℕ) (go : Walk → ℕ → W
 none_behind None w place go = refl
 none_behind (Some e) w place go = refl
 
-none_read : (n : ℕ) (w : Walk) (place : ℕ) (bytes : List ℕ) → NoneThere place bytes → read_on (suc n) w place bytes ≡ w
+pub none_read : (n : ℕ) (w : Walk) (place : ℕ) (bytes : List ℕ) → NoneThere place bytes → read_on (suc n) w place bytes ≡ w
 none_read n w place bytes none = elim none [
   | inl head ↦ ap (λ (o : Option ℕ). read_block w place o (body_at (drop 24 bytes) place) (λ v k. read_on n v (place + k) (drop k bytes))) head
   | inr body ↦
@@ -128,7 +128,7 @@ none_read n w place bytes none = elim none [
       ∙ none_behind (head_at bytes place) w place (λ v k. read_on n v (place + k) (drop k bytes))
 ]
 
-refused : (n : ℕ) (w : Walk) (place e : ℕ) (bytes : List ℕ) (b : Body) → head_at bytes place ≡ Some e → body_at (drop 24 bytes) place ≡ Some b → may_be_read w e b ≡ false → read_on (suc n) w place bytes ≡ w
+pub refused : (n : ℕ) (w : Walk) (place e : ℕ) (bytes : List ℕ) (b : Body) → head_at bytes place ≡ Some e → body_at (drop 24 bytes) place ≡ Some b → may_be_read w e b ≡ false → read_on (suc n) w place bytes ≡ w
 refused n w place e bytes b head body may =
     ap (λ (o : Option ℕ). read_block w place o (body_at (drop 24 bytes) place) (λ v k. read_on n v (place + k) (drop k bytes))) head
     ∙ ap (λ (o : Option Body). read_block w place (Some e) o (λ v k. read_on n v (place + k) (drop k bytes))) body
@@ -156,7 +156,7 @@ stops_refused h f place reading s here block may upto =
     let at : IsThere place (drop place f) s = subst (λ (l : List ℕ). IsThere place l s) (rest_of place f) block in
     stops upto.most h f place reading upto.w here upto.knows upto.enough upto.rest (λ n. refused n upto.w place s.extent (drop place f) (said s.block) at.head at.body (may upto.w upto.knows))
 
-extent_valid : (e : ℕ) → FitsExtent e → 0 < e
+pub extent_valid : (e : ℕ) → FitsExtent e → 0 < e
 extent_valid e fits = grind (arith, nat_tests)
 
 pub extent_some : (place e : ℕ) (bytes : List ℕ) → head_at bytes place ≡ Some e → 0 < e

@@ -5,11 +5,13 @@ use Rattle.tk_model.specs.declared.record.Order.TheVariants.{Hash}
 use Rattle.tk_model.specs.declared.record.ShardOf.{ShardOf}
 use Rattle.tk_model.specs.declared.record.Group.{Group}
 use Rattle.tk_block.specs.Text.{is_static}
-use Rattle.tk_append.specs.Log.{AreGroups, AllHome, closed_text}
+use Rattle.tk_append.specs.Chains.{HeadsAre}
+use Rattle.tk_append.specs.Log.{AreGroups, AllHome, blocks_of, closed_text}
 use Rattle.tk_append.specs.LogParts.{Stands, log_head}
 use Rattle.tk_append.specs.declared.read.CountedLog.{CountedLog}
 
--- what was read is a file of these groups, which the log has, the closed file of them where the disk tells its bytes
+-- what was read is a file of these groups, which the log has, the closed file of them where the disk tells its bytes, with the
+-- newest block of each bucket
 pub record HasCounted {D : Type 0} (image : D → Option (List ℕ)) (disk : D) (shard : ShardOf) (r : CountedLog D) : Type 0 where
   pub groups : List Group
   pub head : is_static (log_head r.log) ≡ true
@@ -18,6 +20,7 @@ pub record HasCounted {D : Type 0} (image : D → Option (List ℕ)) (disk : D) 
   pub number : r.next < 2 ^ 64
   pub count : r.count ≡ length (replay Hash groups [])
   pub stands : Stands image r.log groups
+  pub heads_are : HeadsAre (log_head r.log).p r.heads.items (blocks_of (log_head r.log) groups)
   pub home : (log_head r.log).kind ≡ 1 → AllHome shard groups
   pub text : IfSome (image disk) (λ f. f ≡ closed_text (log_head r.log) groups r.next)
   pub size : IfSome (image disk) (λ f. length f < 2 ^ 64)

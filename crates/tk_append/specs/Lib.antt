@@ -1,11 +1,13 @@
 pub mod Chains
 pub mod Checked
+pub mod FairPast
 pub mod FileText
 pub mod Counted
 pub mod Fresh
 pub mod Keys
 pub mod Log
 pub mod LogParts
+pub mod LogPasts
 pub mod Opened
 pub mod Opening
 pub mod OpeningLaws
@@ -14,5 +16,6 @@ pub mod Read
 pub mod Reread
 pub mod Restored
 pub mod RestoringLaws
+pub mod Untorn
 pub mod Walked
 pub mod Windows

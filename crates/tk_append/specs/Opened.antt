@@ -1,5 +1,5 @@
 -- What the opening of a file of groups answers.
-use Rattle.std.specs.Prelude.{◌≡◌, ℕ, ◌≤◌, ◌^◌, Bool, true, List, Option, IfSome}
+use Rattle.std.specs.Prelude.{◌≡◌, ℕ, ◌<◌, ◌≤◌, ◌^◌, Bool, true, List, length, Option, IfSome}
 use Rattle.tk_model.specs.declared.record.ShardOf.{ShardOf}
 use Rattle.tk_model.specs.declared.record.Group.{Group}
 use Rattle.tk_block.specs.Text.{is_static}
@@ -12,8 +12,11 @@ pub record HasOpened {D : Type 0} (image : D → Option (List ℕ)) (disk : D) (
   pub groups : List Group
   pub next : ℕ
   pub head : is_static (log_head log) ≡ true
+  pub generation : (log_head log).generation < 2 ^ 64
   pub legal : AreGroups 0 next groups
+  pub number : next < 2 ^ 64
   pub stands : Stands image log groups
   pub home : (log_head log).kind ≡ 1 → AllHome shard groups
   pub text : IfSome (image disk) (λ f. f ≡ closed_text (log_head log) groups next)
+  pub size : IfSome (image disk) (λ f. length f < 2 ^ 64)
   pub last : writable ≡ true → next ≤ 2 ^ 62

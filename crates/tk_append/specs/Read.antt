@@ -4,7 +4,8 @@ use Rattle.tk_disk.specs.Disk.{Rose}
 use Rattle.tk_model.specs.declared.record.ShardOf.{ShardOf}
 use Rattle.tk_model.specs.declared.error.OpenError.{OpenError}
 use Rattle.tk_model.specs.declared.error.OpenError.TheVariants as errors
-use Rattle.tk_append.specs.Log.{TellsCause}
+use Rattle.tk_append.specs.Chains.{HeadsAre}
+use Rattle.tk_append.specs.Log.{TellsCause, blocks_of}
 use Rattle.tk_append.specs.Checked.{IsClosed}
 use Rattle.tk_append.specs.declared.check.Found.{Found}
 
@@ -26,8 +27,9 @@ abbrev pub TellsResult : {T : Type 0} → Result T OpenError → Option OpenErro
 TellsResult (Ok x) fault = fault ≡ None
 TellsResult (Err e) fault = TellsCause e fault
 
--- what was found is the closed file of some groups, of the disk's bytes where it tells them
-pub record IsClosedOn (image : Option (List ℕ)) (kinds : List ℕ) (writable : Bool) (shard : ShardOf) (found : Found) : Type 0 where
+-- what was found is the closed file of some groups, of the disk's bytes where it tells them, with the newest block of each bucket
+pub record IsClosedOn (image : Option (List ℕ)) (kinds : List ℕ) (writable : Bool) (shard : ShardOf) (found : Found) (heads : List ℕ) : Type 0 where
   pub bytes : List ℕ
   pub closed : IsClosed kinds writable shard bytes found
+  pub heads_are : HeadsAre found.head.p heads (blocks_of found.head closed.groups)
   pub told : IfSome image (λ f. f ≡ bytes)

@@ -6,6 +6,7 @@ ghost use Rattle.tk_model.specs.declared.record.ShardOf.{ShardOf as Shard};
 ghost use Rattle.tk_model.specs.declared.error.OpenError.TheVariants as OpenError;
 ghost use Rattle.tk_block.specs.Text.{closing_at, static_at, base_of};
 ghost use Rattle.tk_block.specs.declared.head.StaticHead.{StaticHead as Head};
+ghost use Rattle.tk_append.specs.Chains.{HeadsAre};
 ghost use Rattle.tk_append.specs.Opening.{Walk, Ends, records_in, first_fault, closing_fault, end_fault, count_fault};
 ghost use Rattle.tk_append.specs.Log.{TellsCause};
 ghost use Rattle.tk_append.specs.Walked.{IsAt, NewestIn, Shows, live_head, least_behind};
@@ -28,13 +29,20 @@ pub(crate) struct Found {
     pub closing: Closing,
 }
 
+/// What a file's header says, and the newest block of each bucket.
+#[derive(Drop)]
+pub(crate) struct FoundHeads {
+    pub found: Found,
+    pub heads: Vec<u64>,
+}
+
 /// The length of the disk's file.
-fn length_of<D: Disk>(disk: &mut D) -> Result<u64, OpenError>
+pub fn length_of<D: Disk>(disk: &mut D) -> Result<u64, OpenError>
     ensures value { IfSome (D.image disk.old) (λ f. IfOk result (λ n. n ≡ length f)) }
     ensures image { D.image disk.new ≡ D.image disk.old }
     ensures outside { IfErr result IsOutside }
     ensures cause { HasOpenCause (D.fault_count disk.old) (D.fault_count disk.new) result }
-    ensures still { OnlyReads D.may_leave D.moment D.left_since disk.old disk.new }
+    ensures still { OnlyReads D.may_leave D.moment D.left_since D.past D.left_with disk.old disk.new }
 {
     match disk.len() {
         Ok(len) => Ok(len),
@@ -93,7 +101,7 @@ fn read_front<D: Disk>(disk: &mut D, kinds: &[u8]) -> Result<Found, OpenError>
     ensures fails { IfSome (D.image disk.old) (λ f. (writable : Bool) (shard : Shard) → IfErr result (λ e. TellsCause e (first_fault kinds.now writable shard f))) }
     ensures image { D.image disk.new ≡ D.image disk.old }
     ensures cause { HasOpenCause (D.fault_count disk.old) (D.fault_count disk.new) result }
-    ensures still { OnlyReads D.may_leave D.moment D.left_since disk.old disk.new }
+    ensures still { OnlyReads D.may_leave D.moment D.left_since D.past D.left_with disk.old disk.new }
 {
     let size = length_of(disk)?;
     if size < 64 {
@@ -135,12 +143,13 @@ fn check_end<D: Disk>(
     writable: bool,
 ) -> Result<(), OpenError>
     requires { length walker.old.heads.items ≤ 2 ^ 24 }
+    ensures heads { (p place : ℕ) (w : Walk) → IsAt p place walker.old w → OnOk result (HeadsAre p walker.new.heads.items w.blocks) }
     ensures ends { (h : Head) (place : ℕ) (w : Walk) → IsAt h.p place walker.old w → OnOk result (HasHeads (D.image disk.old) h w closing.now writable) }
     ensures fails { (h : Head) (place : ℕ) (w : Walk) → IsAt h.p place walker.old w
         → IfSome (D.image disk.old) (λ f. 64 + 8 * length walker.old.heads.items ≤ length f → IfErr result (λ e. TellsCause e (end_fault writable h closing.now f (Ends w)))) }
     ensures image { D.image disk.new ≡ D.image disk.old }
     ensures cause { HasOpenCause (D.fault_count disk.old) (D.fault_count disk.new) result }
-    ensures still { OnlyReads D.may_leave D.moment D.left_since disk.old disk.new }
+    ensures still { OnlyReads D.may_leave D.moment D.left_since D.past D.left_with disk.old disk.new }
 {
     if let Some(first) = walker.open_group {
         return Err(OpenError::BrokenAt(first.place));
@@ -152,24 +161,25 @@ fn check_end<D: Disk>(
     }
 }
 
-/// Checks the disk's file, from its front to its end, and answers what its header says, or what fails first.
+/// Checks the disk's file, from its front to its end, and answers what its header says and its heads, or what fails first.
 pub(crate) fn check_disk<D: Disk>(
     alloc: Global,
     disk: &mut D,
     kinds: &[u8],
     writable: bool,
     shard: ShardOf,
-) -> Result<Found, OpenError>
+) -> Result<FoundHeads, OpenError>
     requires shard { shard.index < shard.of }
     ensures exact { IfSome (D.image disk.old) (λ f. TellsResult result (first_fault kinds.now writable shard f)) }
-    ensures closed { IfOk result (λ found. IsClosedOn (D.image disk.old) kinds.now writable shard found) }
-    ensures head { IfSome (D.image disk.old) (λ f. IfOk result (λ found. static_at f ≡ Some found.head)) }
+    ensures closed { IfOk result (λ r. IsClosedOn (D.image disk.old) kinds.now writable shard r.found r.heads.items) }
+    ensures head { IfSome (D.image disk.old) (λ f. IfOk result (λ r. static_at f ≡ Some r.found.head)) }
     ensures image { D.image disk.new ≡ D.image disk.old }
     ensures cause { HasOpenCause (D.fault_count disk.old) (D.fault_count disk.new) result }
-    ensures still { OnlyReads D.may_leave D.moment D.left_since disk.old disk.new }
+    ensures still { OnlyReads D.may_leave D.moment D.left_since D.past D.left_with disk.old disk.new }
 {
     let found = read_front(disk, kinds)?;
     let mut walker = walk_file(alloc, disk, &found.head, shard, found.closing.size)?;
     check_end(alloc, disk, &mut walker, &found.closing, writable)?;
-    Ok(found)
+    let heads = walker.into_heads();
+    Ok(FoundHeads { found, heads })
 }

@@ -114,15 +114,15 @@ fn cut_short(alloc: Global, call: u64) -> Result<MemDisk, Fail> {
     let mut disk = MemDisk::new(alloc, Bytes::new(alloc), 10_000, faults)?;
     let mut pairs = PairList::new(alloc);
     add_record(alloc, &mut pairs, b"a", b"1")?;
-    let _ = write_fresh(alloc, &mut disk, &head_of(1, 0), &pairs);
+    let _ = write_fresh(alloc, &mut disk, &head_of(1, 0), 0, &pairs);
     Ok(disk)
 }
 
-/// A file is no database, or its closing part is torn, or it is whole.
+/// A file is no database, or it is whole.
 fn is_none_or_whole(alloc: Global, bytes: Bytes) -> Result<bool, Fail> {
     let mut disk = MemDisk::new(alloc, bytes, 0, FaultList::new(alloc))?;
     match check_all(alloc, &mut disk, true, ALONE) {
-        Ok(_) | Err(OpenError::NotADatabase) | Err(OpenError::BrokenAt(32)) => Ok(true),
+        Ok(_) | Err(OpenError::NotADatabase) => Ok(true),
         Err(_) => Ok(false),
     }
 }
@@ -130,9 +130,10 @@ fn is_none_or_whole(alloc: Global, bytes: Bytes) -> Result<bool, Fail> {
 #[test]
 fn a_crash_leaves_no_half_of_a_fresh_file(rt: HostRuntime) -> Result<(), Fail> {
     let alloc = rt.alloc();
-    for call in 0..4 {
+    // Zero bytes, heads and blocks, closing part, sync, header, sync, and no fault.
+    for call in 0..7 {
         let disk = cut_short(alloc, call)?;
-        for keep in 0..=130 {
+        for keep in 0..=230 {
             let image = disk.crash(alloc, keep)?;
             assert!(rt; is_none_or_whole(alloc, image)?, "call {call} at {keep}");
         }

@@ -47,7 +47,7 @@ pub(crate) fn head_fault<D: Disk>(
     ensures outside { IfSome (D.image disk.old) (λ f. 64 + 8 * length heads.now ≤ length f → IfErr result IsOutside) }
     ensures image { D.image disk.new ≡ D.image disk.old }
     ensures cause { HasOpenCause (D.fault_count disk.old) (D.fault_count disk.new) result }
-    ensures still { OnlyReads D.may_leave D.moment D.left_since disk.old disk.new }
+    ensures still { OnlyReads D.may_leave D.moment D.left_since D.past D.left_with disk.old disk.new }
 {
     let mut buffer = zeros(alloc, 8 * PIECE.min(heads.len()))?;
     let mut first = 0;

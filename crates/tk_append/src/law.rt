@@ -1,5 +1,6 @@
 //! Laws, as functions that do nothing.
 ghost use Rattle.tk_append.specs.OpeningLaws.{OpensClosed, OpensOnlyClosed};
+ghost use Rattle.tk_append.specs.FairPast.{FairRestores, WholeRestores, FairMore, FairWritten, FairSettled};
 ghost use Rattle.tk_append.specs.RestoringLaws.{ReadsBack, Restores, TornKeeps, FilesKeep, FrontsKept, FilesUntorn};
 
 /// Openings accept the closed files of groups, and nothing else.
@@ -16,4 +17,13 @@ pub fn images_restore()
     ensures files { FilesKeep }
     ensures fronts { FrontsKept }
     ensures untorn { FilesUntorn }
+{}
+
+/// Images that are untorn by a fair past are restored, and fair pasts stay so.
+pub fn fair_pasts_restore()
+    ensures restored { FairRestores }
+    ensures whole { WholeRestores }
+    ensures more { FairMore }
+    ensures written { FairWritten }
+    ensures settled { FairSettled }
 {}

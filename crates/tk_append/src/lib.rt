@@ -18,13 +18,16 @@ mod scan;
 mod walker;
 mod window;
 
+pub use check::length_of;
 pub use extent::extent_of_change;
 pub use fresh::write_fresh;
-pub use law::{closed_files_open, images_restore};
+pub use law::{closed_files_open, fair_pasts_restore, images_restore};
 pub use log::GroupLog;
 pub use open::{check_all, open_log};
 pub use read::{CountedLog, read_counted};
-pub use restore::restore_groups;
+pub use restore::{change_of, restore_groups};
+pub use walker::{OpenGroup, is_in_turn};
+pub use window::{Window, read_piece};
 
 #[cfg(test)]
 mod crash_tests;

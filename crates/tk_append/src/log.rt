@@ -1,17 +1,19 @@
-ghost use Rattle.std.specs.Prelude.{◌≡◌, ◌⊎◌, ◌+◌, ◌*◌, ◌<◌, ◌≤◌, ◌++◌, ◌∷◌, ◌^◌, [], ℕ, List, length, true, IfSome, OnOk, Some};
+ghost use Rattle.std.specs.Prelude.{◌≡◌, ◌⊎◌, ◌+◌, ◌*◌, ◌<◌, ◌≤◌, ◌++◌, ◌∷◌, ◌^◌, [], ℕ, List, length, true, false, IfSome, OnOk, OnErr, Some};
 ghost use Rattle.std.specs.Option.{is_some, option_map};
 ghost use Rattle.std.specs.Borrow.{Lends, sem};
-ghost use Rattle.tk_disk.specs.Crash.{Torn, Follows, Within, Only, LeavesOnly};
+ghost use Rattle.tk_disk.specs.Crash.{Torn, Follows, Within, Only, LeavesOnly, PastOnly};
 ghost use Rattle.tk_disk.specs.Disk.{put_at, HasCause};
+ghost use Rattle.tk_disk.specs.Past.{Writes, settled_on};
 ghost use Rattle.tk_model.specs.declared.record.Change.{Change};
 ghost use Rattle.tk_model.specs.declared.record.Group.{Group};
 ghost use Rattle.tk_model.specs.Records.{AllFit};
-ghost use Rattle.tk_block.specs.Text.{base_of};
+ghost use Rattle.tk_block.specs.Text.{base_of, closing_text};
 ghost use Rattle.tk_block.specs.Blocks.{group_bodies};
 ghost use Rattle.tk_block.specs.Layout.{group_text, laid, end_of, links_of};
 ghost use Rattle.tk_append.specs.Log.{blocks_of};
 ghost use Rattle.tk_append.specs.contracts.log.GroupLog.{the_row};
 ghost use Rattle.tk_append.specs.LogParts.{log_disk, log_head, log_end, with_disk, with_closing, open_mark, IsReady, Stands};
+ghost use Rattle.tk_append.specs.LogPasts.{Settles, Marks, Closes};
 
 use std::alloc::Global;
 use tk_block::{Closing, LinkList, StaticHead, renumber, write_changes, write_closing};
@@ -123,6 +125,13 @@ impl<D: Disk> GroupLog<D> {
             → Follows (Torn (log_end self.old) (length (group_text (record { number = number; changes = changes }) (log_end self.old) links))) (D.may_leave (log_disk self.old)) (D.may_leave (log_disk self.new)) }
         ensures time { (changes : List Change) (links : List ℕ) → IsReady self.old changes links
             → LeavesOnly D.moment D.left_since (log_disk self.old) (log_disk self.new) (λ c. (d : List ℕ) × D.may_leave (log_disk self.old) d × Torn (log_end self.old) (length (group_text (record { number = number; changes = changes }) (log_end self.old) links)) d c) }
+        ensures past { (changes : List Change) (links : List ℕ) → IsReady self.old changes links
+            → Writes (log_end self.old) (group_text (record { number = number; changes = changes }) (log_end self.old) links)
+            (D.past (log_disk self.old)) (D.past (log_disk self.new)) }
+        ensures pasts { (changes : List Change) (links : List ℕ) → IsReady self.old changes links
+            → PastOnly D.moment D.left_with (log_disk self.old) (log_disk self.new)
+            (Writes (log_end self.old) (group_text (record { number = number; changes = changes }) (log_end self.old) links)
+            (D.past (log_disk self.old))) }
     {
         renumber(&mut self.ready, self.end, number);
         self.disk.write_at(self.end, self.ready.as_slice())?;
@@ -142,6 +151,13 @@ impl<D: Disk> GroupLog<D> {
         ensures durable { hard ≡ true → OnOk result (IfSome (D.image (log_disk self.old)) (λ f. Only f (D.may_leave (log_disk self.new)))) }
         ensures crash { Within (D.may_leave (log_disk self.old)) (D.may_leave (log_disk self.new)) }
         ensures time { LeavesOnly D.moment D.left_since (log_disk self.old) (log_disk self.new) (D.may_leave (log_disk self.old)) }
+        ensures past { Settles (D.image (log_disk self.old)) (D.past (log_disk self.old)) (D.past (log_disk self.new)) }
+        ensures pasts { PastOnly D.moment D.left_with (log_disk self.old) (log_disk self.new)
+            (Settles (D.image (log_disk self.old)) (D.past (log_disk self.old))) }
+        ensures settled { hard ≡ true → IfSome (D.image (log_disk self.old)) (λ f.
+            OnOk result (D.past (log_disk self.new) ≡ settled_on f)) }
+        ensures unsettled { OnErr result (D.past (log_disk self.new) ≡ D.past (log_disk self.old)) }
+        ensures soft { hard ≡ false → D.past (log_disk self.new) ≡ D.past (log_disk self.old) }
     {
         self.disk.sync(hard)
     }
@@ -158,6 +174,9 @@ impl<D: Disk> GroupLog<D> {
         ensures cause { HasCause (D.fault_count (log_disk self.old)) (D.fault_count (log_disk self.new)) result }
         ensures crash { Follows (Torn 32 32) (D.may_leave (log_disk self.old)) (D.may_leave (log_disk self.new)) }
         ensures time { LeavesOnly D.moment D.left_since (log_disk self.old) (log_disk self.new) (λ c. (d : List ℕ) × D.may_leave (log_disk self.old) d × Torn 32 32 d c) }
+        ensures past { Writes 32 (closing_text closing.now) (D.past (log_disk self.old)) (D.past (log_disk self.new)) }
+        ensures pasts { PastOnly D.moment D.left_with (log_disk self.old) (log_disk self.new)
+            (Writes 32 (closing_text closing.now) (D.past (log_disk self.old))) }
     {
         self.disk.write_at(32, &write_closing(closing))
     }
@@ -175,6 +194,11 @@ impl<D: Disk> GroupLog<D> {
         ensures crash { Follows (Torn 32 32) (D.may_leave (log_disk self.old)) (D.may_leave (log_disk self.new)) }
         ensures durable { OnOk result (IfSome (D.image (log_disk self.new)) (λ f. Only f (D.may_leave (log_disk self.new)))) }
         ensures time { LeavesOnly D.moment D.left_since (log_disk self.old) (log_disk self.new) (λ c. (d : List ℕ) × D.may_leave (log_disk self.old) d × Torn 32 32 d c) }
+        ensures past { Marks open_mark (D.image (log_disk self.old)) (D.past (log_disk self.old)) (D.past (log_disk self.new)) }
+        ensures pasts { PastOnly D.moment D.left_with (log_disk self.old) (log_disk self.new)
+            (Marks open_mark (D.image (log_disk self.old)) (D.past (log_disk self.old))) }
+        ensures settled { OnOk result (IfSome (D.image (log_disk self.new)) (λ f.
+            D.past (log_disk self.new) ≡ settled_on f)) }
     {
         let closing = Closing {
             size: 0,
@@ -199,6 +223,11 @@ impl<D: Disk> GroupLog<D> {
         ensures durable { OnOk result (IfSome (D.image (log_disk self.new)) (λ f. Only f (D.may_leave (log_disk self.new)))) }
         ensures time { LeavesOnly D.moment D.left_since (log_disk self.old) (log_disk self.new) (λ c. (d : List ℕ) × D.may_leave (log_disk self.old) d × Torn 32 32 d c) }
         ensures behind { IfSome (D.image (log_disk self.old)) (λ f. LeavesOnly D.moment D.left_since (log_disk self.old) (log_disk self.new) (λ c. D.may_leave (log_disk self.old) c ⊎ Torn 32 32 f c)) }
+        ensures past { Closes (record { size = log_end self.old; count = count; next = next }) (D.image (log_disk self.old)) (D.past (log_disk self.old)) (D.past (log_disk self.new)) }
+        ensures pasts { PastOnly D.moment D.left_with (log_disk self.old) (log_disk self.new)
+            (Closes (record { size = log_end self.old; count = count; next = next }) (D.image (log_disk self.old)) (D.past (log_disk self.old))) }
+        ensures settled { OnOk result (IfSome (D.image (log_disk self.new)) (λ f.
+            D.past (log_disk self.new) ≡ settled_on f)) }
     {
         self.sync_log(true)?;
         let size = self.end;
@@ -220,6 +249,9 @@ impl<D: Disk> GroupLog<D> {
         ensures cause { HasCause (D.fault_count (log_disk self.old)) (D.fault_count (log_disk self.new)) result }
         ensures crash { Follows (Torn (64 + 8 * bucket) (length text.now)) (D.may_leave (log_disk self.old)) (D.may_leave (log_disk self.new)) }
         ensures time { LeavesOnly D.moment D.left_since (log_disk self.old) (log_disk self.new) (λ c. (d : List ℕ) × D.may_leave (log_disk self.old) d × Torn (64 + 8 * bucket) (length text.now) d c) }
+        ensures past { Writes (64 + 8 * bucket) text.now (D.past (log_disk self.old)) (D.past (log_disk self.new)) }
+        ensures pasts { PastOnly D.moment D.left_with (log_disk self.old) (log_disk self.new)
+            (Writes (64 + 8 * bucket) text.now (D.past (log_disk self.old))) }
     {
         self.disk.write_at(64 + 8 * bucket, text)
     }

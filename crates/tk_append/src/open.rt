@@ -3,12 +3,14 @@ ghost use Rattle.std.specs.List.{list_any};
 ghost use Rattle.std.specs.Option.{is_some, option_map};
 ghost use Rattle.tk_model.specs.declared.record.Group.{Group};
 ghost use Rattle.tk_model.specs.declared.error.OpenError.TheVariants as OpenError;
-ghost use Rattle.tk_disk.specs.Crash.{Torn, Follows, Within, Only, LeavesOnly, OnlyReads};
+ghost use Rattle.tk_disk.specs.Crash.{Torn, Follows, Within, Only, LeavesOnly, OnlyReads, PastOnly};
 ghost use Rattle.tk_disk.specs.Disk.{Rose, HasCause};
+ghost use Rattle.tk_disk.specs.Past.{settled_on};
 ghost use Rattle.tk_block.specs.Text.{static_at};
 ghost use Rattle.tk_append.specs.Opening.{first_fault};
 ghost use Rattle.tk_append.specs.Log.{Tells};
 ghost use Rattle.tk_append.specs.LogParts.{log_disk, log_head, with_closing, open_mark, Stands};
+ghost use Rattle.tk_append.specs.LogPasts.{Marks};
 ghost use Rattle.tk_append.specs.Read.{HasOpenCause, TellsResult};
 ghost use Rattle.tk_append.specs.Opened.{HasOpened};
 
@@ -34,6 +36,11 @@ fn begin<D: Disk>(log: &mut GroupLog<D>, writable: bool) -> Result<(), DiskError
     ensures crash_reads { writable ≡ false → Within (D.may_leave (log_disk log.old)) (D.may_leave (log_disk log.new)) }
     ensures durable { writable ≡ true → OnOk result (IfSome (D.image (log_disk log.new)) (λ f. Only f (D.may_leave (log_disk log.new)))) }
     ensures time { LeavesOnly D.moment D.left_since (log_disk log.old) (log_disk log.new) (λ c. (d : List ℕ) × D.may_leave (log_disk log.old) d × Torn 32 32 d c) }
+    ensures past { Marks open_mark (D.image (log_disk log.old)) (D.past (log_disk log.old)) (D.past (log_disk log.new)) }
+    ensures pasts { PastOnly D.moment D.left_with (log_disk log.old) (log_disk log.new)
+        (Marks open_mark (D.image (log_disk log.old)) (D.past (log_disk log.old))) }
+    ensures settled { writable ≡ true → OnOk result (IfSome (D.image (log_disk log.new)) (λ f. D.past (log_disk log.new) ≡ settled_on f)) }
+    ensures still { writable ≡ false → OnlyReads D.may_leave D.moment D.left_since D.past D.left_with (log_disk log.old) (log_disk log.new) }
 {
     if writable { log.mark_open() } else { Ok(()) }
 }
@@ -56,7 +63,7 @@ pub fn open_log<D: Disk>(
     ensures told { IfOk result (λ log. is_some (D.image (log_disk log)) ≡ is_some (D.image disk)) }
     ensures back { IfErr result (λ u. u.cause ≢ OpenError.Fault → D.image u.disk ≡ D.image disk) }
     ensures back_reads { writable ≡ false → IfErr result (λ u. D.image u.disk ≡ D.image disk) }
-    ensures back_still { IfErr result (λ u. u.cause ≢ OpenError.Fault → OnlyReads D.may_leave D.moment D.left_since disk u.disk) }
+    ensures back_still { IfErr result (λ u. u.cause ≢ OpenError.Fault → OnlyReads D.may_leave D.moment D.left_since D.past D.left_with disk u.disk) }
     ensures back_told { IfErr result (λ u. is_some (D.image u.disk) ≡ is_some (D.image disk)) }
     ensures durable { writable ≡ true → IfOk result (λ log. IfSome (D.image (log_disk log)) (λ f. Only f (D.may_leave (log_disk log)))) }
     ensures crash { IfOk result (λ log. Follows (Torn 32 32) (D.may_leave disk) (D.may_leave (log_disk log))) }
@@ -67,6 +74,12 @@ pub fn open_log<D: Disk>(
     ensures cause { IfErr result (λ u. u.cause ≡ OpenError.Fault → Rose (D.fault_count disk) (D.fault_count u.disk)) }
     ensures time { IfOk result (λ log. LeavesOnly D.moment D.left_since disk (log_disk log) (λ c. (d : List ℕ) × D.may_leave disk d × Torn 32 32 d c)) }
     ensures back_time { IfErr result (λ u. LeavesOnly D.moment D.left_since disk u.disk (λ c. (d : List ℕ) × D.may_leave disk d × Torn 32 32 d c)) }
+    ensures past { IfOk result (λ log. Marks open_mark (D.image disk) (D.past disk) (D.past (log_disk log))) }
+    ensures back_past { IfErr result (λ u. Marks open_mark (D.image disk) (D.past disk) (D.past u.disk)) }
+    ensures pasts { IfOk result (λ log. PastOnly D.moment D.left_with disk (log_disk log) (Marks open_mark (D.image disk) (D.past disk))) }
+    ensures back_pasts { IfErr result (λ u. PastOnly D.moment D.left_with disk u.disk (Marks open_mark (D.image disk) (D.past disk))) }
+    ensures settled { writable ≡ true → IfOk result (λ log. IfSome (D.image (log_disk log)) (λ f. D.past (log_disk log) ≡ settled_on f)) }
+    ensures still { writable ≡ false → IfOk result (λ log. OnlyReads D.may_leave D.moment D.left_since D.past D.left_with disk (log_disk log)) }
 {
     let read = match read_counted(alloc, disk, &[1, 3], writable, shard) {
         Ok(read) => read,
@@ -74,6 +87,7 @@ pub fn open_log<D: Disk>(
     };
     let CountedLog {
         mut log,
+        heads: _,
         count: _,
         next: _,
     } = read;
@@ -86,7 +100,8 @@ pub fn open_log<D: Disk>(
     }
 }
 
-/// The check of an opening, with no write. Answers the file's header.
+/// The steps of an opening, with no write, for each kind that stands. Whether the kind fits the file's ending is the
+/// caller's test. Answers the file's header.
 pub fn check_all<D: Disk>(
     alloc: Global,
     disk: &mut D,
@@ -99,8 +114,8 @@ pub fn check_all<D: Disk>(
     ensures kind { IfOk result (λ h. list_any (λ k. k == h.kind) (1 ∷ 3 ∷ []) ≡ true) }
     ensures image { D.image disk.new ≡ D.image disk.old }
     ensures cause { HasOpenCause (D.fault_count disk.old) (D.fault_count disk.new) result }
-    ensures still { OnlyReads D.may_leave D.moment D.left_since disk.old disk.new }
+    ensures still { OnlyReads D.may_leave D.moment D.left_since D.past D.left_with disk.old disk.new }
 {
-    let found = check_disk(alloc, disk, &[1, 3], writable, shard)?;
-    Ok(found.head)
+    let checked = check_disk(alloc, disk, &[1, 3], writable, shard)?;
+    Ok(checked.found.head)
 }

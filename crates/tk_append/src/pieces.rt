@@ -1,6 +1,7 @@
 ghost use Rattle.std.specs.Prelude.{◌≡◌, ◌+◌, ◌≤◌, ◌<◌, ◌++◌, ◌^◌, List, ℕ, [], length, IfSome, OnOk};
 ghost use Rattle.std.specs.Option.{is_some};
 ghost use Rattle.tk_disk.specs.Disk.{HasCause};
+ghost use Rattle.tk_append.specs.Untorn.{WritesNoHeader};
 ghost use Rattle.tk_append.specs.Pieces.{Holds};
 
 use tk_disk::{Disk, DiskError};
@@ -15,14 +16,17 @@ pub(crate) fn flush<D: Disk>(
     at: &mut u64,
     waiting: &mut Bytes,
 ) -> Result<(), DiskError>
+    requires behind { 0 < at.old }
     requires here { IfSome (D.image disk.old) (λ f. length f ≡ at.old) }
     requires end { at.old + length waiting.old ≤ 2 ^ 40 }
     ensures text { (text : List ℕ) → Holds (D.image disk.old) at.old waiting.old text → OnOk result (Holds (D.image disk.new) at.new waiting.new text) }
     ensures here { OnOk result (IfSome (D.image disk.new) (λ f. length f ≡ at.new)) }
     ensures waits { OnOk result (waiting.new ≡ []) }
     ensures end { OnOk result (at.new ≡ at.old + length waiting.old) }
+    ensures front { OnOk result (at.old ≤ at.new) }
     ensures told { is_some (D.image disk.new) ≡ is_some (D.image disk.old) }
     ensures cause { HasCause (D.fault_count disk.old) (D.fault_count disk.new) result }
+    ensures nameless { WritesNoHeader D.past D.moment D.left_with disk.old disk.new }
 {
     disk.write_at(*at, waiting.as_slice())?;
     *at += waiting.len() as u64;
@@ -36,13 +40,16 @@ pub(crate) fn flush_piece<D: Disk>(
     at: &mut u64,
     waiting: &mut Bytes,
 ) -> Result<(), DiskError>
+    requires behind { 0 < at.old }
     requires here { IfSome (D.image disk.old) (λ f. length f ≡ at.old) }
     requires end { at.old + length waiting.old ≤ 2 ^ 40 }
     ensures text { (text : List ℕ) → Holds (D.image disk.old) at.old waiting.old text → OnOk result (Holds (D.image disk.new) at.new waiting.new text) }
     ensures here { OnOk result (IfSome (D.image disk.new) (λ f. length f ≡ at.new)) }
     ensures end { OnOk result (at.new + length waiting.new ≡ at.old + length waiting.old) }
+    ensures front { OnOk result (at.old ≤ at.new) }
     ensures told { is_some (D.image disk.new) ≡ is_some (D.image disk.old) }
     ensures cause { HasCause (D.fault_count disk.old) (D.fault_count disk.new) result }
+    ensures nameless { WritesNoHeader D.past D.moment D.left_with disk.old disk.new }
 {
     if waiting.len() < PIECE {
         return Ok(());

@@ -8,16 +8,17 @@ ghost use Rattle.tk_append.specs.Log.{Tells};
 ghost use Rattle.tk_append.specs.LogParts.{log_disk, log_head};
 ghost use Rattle.tk_append.specs.Counted.{HasCounted};
 
-use crate::check::check_disk;
+use crate::check::{FoundHeads, check_disk};
 use crate::log::GroupLog;
 use std::alloc::Global;
 use tk_disk::Disk;
 use tk_model::{ShardOf, Unopened};
 
-/// The log of a file that was read, with the number of its records and its next number.
+/// The log of a file that was read, with the newest block of each bucket, the number of its records and its next number.
 #[derive(Drop)]
 pub struct CountedLog<D: Disk> {
     pub log: GroupLog<D>,
+    pub heads: Vec<u64>,
     pub count: u64,
     pub next: u64,
 }
@@ -37,16 +38,17 @@ pub fn read_counted<D: Disk>(
     ensures last { IfOk result (λ r. writable ≡ true → r.next ≤ 2 ^ 62) }
     ensures image { IfOk result (λ r. D.image (log_disk r.log) ≡ D.image disk) }
     ensures back { IfErr result (λ u. D.image u.disk ≡ D.image disk) }
-    ensures still { IfOk result (λ r. OnlyReads D.may_leave D.moment D.left_since disk (log_disk r.log)) }
-    ensures back_still { IfErr result (λ u. OnlyReads D.may_leave D.moment D.left_since disk u.disk) }
+    ensures still { IfOk result (λ r. OnlyReads D.may_leave D.moment D.left_since D.past D.left_with disk (log_disk r.log)) }
+    ensures back_still { IfErr result (λ u. OnlyReads D.may_leave D.moment D.left_since D.past D.left_with disk u.disk) }
     ensures counted { IfOk result (λ r. D.fault_count (log_disk r.log) ≡ D.fault_count disk) }
     ensures later { IfErr result (λ u. D.fault_count disk ≤ D.fault_count u.disk) }
     ensures cause { IfErr result (λ u. u.cause ≡ OpenError.Fault → Rose (D.fault_count disk) (D.fault_count u.disk)) }
 {
     let mut disk = disk;
     match check_disk(alloc, &mut disk, kinds, writable, shard) {
-        Ok(found) => Ok(CountedLog {
+        Ok(FoundHeads { found, heads }) => Ok(CountedLog {
             log: GroupLog::of(alloc, disk, found.head, found.closing.size),
+            heads,
             count: found.closing.count,
             next: found.closing.next,
         }),

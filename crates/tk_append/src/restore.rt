@@ -31,7 +31,7 @@ fn block_at(bytes: &[u8], place: u64) -> Option<Standing<'_>>
 }
 
 /// What a block does.
-fn change_of(alloc: Global, block: Block<'_>) -> Result<Change, NoMemory>
+pub fn change_of(alloc: Global, block: Block<'_>) -> Result<Change, NoMemory>
     ensures { IfOk result (λ c. c ≡ change_in (said block.entry)) }
 {
     match block.kind {

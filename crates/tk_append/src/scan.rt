@@ -27,7 +27,7 @@ pub(crate) fn walk_file<D: Disk>(
     ensures fails { IfSome (D.image disk.old) (λ f. length f ≡ size → IfErr result (WalkFails head.now shard f)) }
     ensures image { D.image disk.new ≡ D.image disk.old }
     ensures cause { HasOpenCause (D.fault_count disk.old) (D.fault_count disk.new) result }
-    ensures still { OnlyReads D.may_leave D.moment D.left_since disk.old disk.new }
+    ensures still { OnlyReads D.may_leave D.moment D.left_since D.past D.left_with disk.old disk.new }
 {
     let mut walker = Walker::new(alloc, head.p)?;
     let mut window = Window::new(alloc);

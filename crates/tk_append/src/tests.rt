@@ -48,7 +48,7 @@ fn sum_of(disk: &MemDisk) -> (usize, u64) {
 /// A disk of a set with no records.
 pub(crate) fn fresh_disk(alloc: Global) -> Result<MemDisk, Fail> {
     let mut disk = empty_disk(alloc)?;
-    write_fresh(alloc, &mut disk, &head_of(1, 0), &PairList::new(alloc))?;
+    write_fresh(alloc, &mut disk, &head_of(1, 0), 0, &PairList::new(alloc))?;
     Ok(disk)
 }
 
@@ -69,7 +69,7 @@ fn three_records_in_one_bucket(rt: HostRuntime) -> Result<(), Fail> {
     add(alloc, &mut pairs, b"b", b"22")?;
     add(alloc, &mut pairs, b"c", b"")?;
     let mut disk = empty_disk(alloc)?;
-    write_fresh(alloc, &mut disk, &head_of(1, 0), &pairs)?;
+    write_fresh(alloc, &mut disk, &head_of(1, 0), 0, &pairs)?;
     assert_eq!(rt; sum_of(&disk), (216, 0x92dfccc26f125f30));
     Ok(())
 }
@@ -78,7 +78,7 @@ fn three_records_in_one_bucket(rt: HostRuntime) -> Result<(), Fail> {
 fn no_records(rt: HostRuntime) -> Result<(), Fail> {
     let alloc = rt.alloc();
     let mut disk = empty_disk(alloc)?;
-    write_fresh(alloc, &mut disk, &head_of(1, 0), &PairList::new(alloc))?;
+    write_fresh(alloc, &mut disk, &head_of(1, 0), 0, &PairList::new(alloc))?;
     assert_eq!(rt; sum_of(&disk), (72, 0x71c84c289f5a334c));
     Ok(())
 }
@@ -90,7 +90,7 @@ fn an_updating_file(rt: HostRuntime) -> Result<(), Fail> {
     add(alloc, &mut pairs, b"a", b"1")?;
     add(alloc, &mut pairs, b"b", b"22")?;
     let mut disk = empty_disk(alloc)?;
-    write_fresh(alloc, &mut disk, &head_of(2, 0), &pairs)?;
+    write_fresh(alloc, &mut disk, &head_of(2, 0), 0, &pairs)?;
     assert_eq!(rt; sum_of(&disk), (168, 0x8ca89d64b967e769));
     Ok(())
 }
@@ -121,5 +121,30 @@ fn a_fresh_file_is_checked(rt: HostRuntime) -> Result<(), Fail> {
     let head = check_all(alloc, &mut disk, true, ALONE)?;
     assert_eq!(rt; (head.kind, head.p), (1, 0));
     assert_eq!(rt; sum_of(&disk), (72, 0x71c84c289f5a334c));
+    Ok(())
+}
+
+#[test]
+fn a_fresh_group_has_the_number_that_was_asked_for(rt: HostRuntime) -> Result<(), Fail> {
+    let alloc = rt.alloc();
+    let mut pairs = PairList::new(alloc);
+    add(alloc, &mut pairs, b"a", b"1")?;
+    let mut disk = empty_disk(alloc)?;
+    write_fresh(alloc, &mut disk, &head_of(1, 0), 7, &pairs)?;
+    let groups = restore_groups(alloc, disk.bytes())?;
+    let numbers = groups.as_slice().iter().map(|group| group.number);
+    assert!(rt; numbers.eq([7]));
+    let read = read_counted(alloc, disk, &[1], true, ALONE);
+    assert!(rt; read.is_ok_and(|read| (read.count, read.next) == (1, 8)));
+    Ok(())
+}
+
+#[test]
+fn without_records_the_next_number_is_zero(rt: HostRuntime) -> Result<(), Fail> {
+    let alloc = rt.alloc();
+    let mut disk = empty_disk(alloc)?;
+    write_fresh(alloc, &mut disk, &head_of(1, 0), 7, &PairList::new(alloc))?;
+    let read = read_counted(alloc, disk, &[1], true, ALONE);
+    assert!(rt; read.is_ok_and(|read| (read.count, read.next) == (0, 0)));
     Ok(())
 }

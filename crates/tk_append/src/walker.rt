@@ -14,7 +14,7 @@ use tk_model::{NoMemory, OpenError, ShardOf, bucket, mix, shard};
 
 /// The first block of a group that is not complete.
 #[derive(Clone, Copy, Debug, PartialEq, Eq)]
-pub(crate) struct OpenGroup {
+pub struct OpenGroup {
     pub place: u64,
     pub number: u64,
 }
@@ -95,11 +95,7 @@ fn is_home(head: &StaticHead, shard_of: ShardOf, found: &FoundBlock<'_>) -> bool
 }
 
 /// The block may follow those before it in its group, or begin a group.
-pub(crate) fn is_in_turn(
-    before: Option<u64>,
-    open_group: Option<OpenGroup>,
-    block: Block<'_>,
-) -> bool
+pub fn is_in_turn(before: Option<u64>, open_group: Option<OpenGroup>, block: Block<'_>) -> bool
     ensures { result ≡ turn_in before open_group (said block.entry) }
 {
     match open_group {
@@ -272,6 +268,20 @@ impl Walker {
         let found = self.judge(head, shard, place, bytes)?;
         self.pass(alloc, head.p, place, &found)?;
         Ok(found.extent)
+    }
+
+    /// Gives the heads away.
+    pub fn into_heads(self) -> Vec<u64>
+        ensures { result ≡ self.heads }
+    {
+        let Walker {
+            heads,
+            cleared: _,
+            keys: _,
+            before: _,
+            open_group: _,
+        } = self;
+        heads
     }
 
     /// Makes 0 of the heads in front of the last clear.

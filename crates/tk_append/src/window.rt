@@ -1,6 +1,7 @@
 //! The part of a file that was read and isn't passed yet.
-ghost use Rattle.std.specs.Prelude.{◌≡◌, ◌≤◌, ◌<◌, ◌^◌, ◌+◌, ◌-◌, ℕ, List, [], ◌++◌, length, drop, min, IfErr, IfSome, OnOk};
+ghost use Rattle.std.specs.Prelude.{◌≡◌, ◌≤◌, ◌<◌, ◌^◌, ◌+◌, ◌-◌, ℕ, List, [], ◌++◌, length, drop, min, ◌⊎◌, IfErr, IfSome, OnOk};
 ghost use Rattle.std.specs.Io.{StartsWith};
+ghost use Rattle.tk_model.specs.declared.error.OpenError.TheVariants.{BrokenAt};
 ghost use Rattle.tk_disk.specs.Crash.{OnlyReads};
 ghost use Rattle.tk_append.specs.Read.{IsOutside, HasOpenCause};
 ghost use Rattle.tk_append.specs.Walked.{Shows, HoldsBlock};
@@ -17,12 +18,13 @@ const PIECE: u64 = 1 << 20;
 const LONGEST: u64 = 1 << 26;
 
 /// Fills the bytes from a place of the disk's file on. A file that ends before is not as long as its closing part says.
-pub(crate) fn read_piece<D: Disk>(disk: &mut D, at: u64, into: &mut [u8]) -> Result<(), OpenError>
+pub fn read_piece<D: Disk>(disk: &mut D, at: u64, into: &mut [u8]) -> Result<(), OpenError>
     ensures shows { OnOk result (Shows (D.image disk.old) at into.new) }
     ensures outside { IfSome (D.image disk.old) (λ f. at + length into.old ≤ length f → IfErr result IsOutside) }
+    ensures short { IfErr result (λ e. IsOutside e ⊎ ((e ≡ BrokenAt 32) × (D.fault_count disk.new ≡ D.fault_count disk.old))) }
     ensures image { D.image disk.new ≡ D.image disk.old }
     ensures cause { HasOpenCause (D.fault_count disk.old) (D.fault_count disk.new) result }
-    ensures still { OnlyReads D.may_leave D.moment D.left_since disk.old disk.new }
+    ensures still { OnlyReads D.may_leave D.moment D.left_since D.past D.left_with disk.old disk.new }
 {
     match disk.read_at(at, into) {
         Ok(got) if got == into.len() => Ok(()),
@@ -34,7 +36,7 @@ pub(crate) fn read_piece<D: Disk>(disk: &mut D, at: u64, into: &mut [u8]) -> Res
 
 /// Bytes of a file that follow one another, in a buffer that grows to the longest block.
 #[derive(Drop)]
-pub(crate) struct Window {
+pub struct Window {
     buffer: Vec<u8>,
     start: usize,
     end: usize,
@@ -43,13 +45,15 @@ pub(crate) struct Window {
 }
 
 impl Window {
-    ghost use Rattle.std.specs.Prelude.{◌≡◌, ◌≤◌, ◌<◌, ◌^◌, ◌+◌, ◌-◌, ℕ, List, [], ◌++◌, length, drop, min, IfErr, IfSome, OnOk};
+    ghost use Rattle.std.specs.Prelude.{◌≡◌, ◌≤◌, ◌<◌, ◌^◌, ◌+◌, ◌-◌, ℕ, List, [], ◌++◌, length, drop, min, ◌⊎◌, IfErr, IfSome, OnOk};
     ghost use Rattle.std.specs.Io.{StartsWith};
+    ghost use Rattle.tk_model.specs.declared.error.OpenError.TheVariants.{BrokenAt};
     ghost use Rattle.tk_disk.specs.Crash.{OnlyReads};
     ghost use Rattle.tk_append.specs.Read.{IsOutside, HasOpenCause};
     ghost use Rattle.tk_append.specs.Walked.{Shows, HoldsBlock};
     ghost use Rattle.tk_append.specs.Windows.{items, room};
 
+    /// Nothing is read yet.
     pub fn new(alloc: Global) -> Window
         ensures { items result ≡ [] }
     {
@@ -60,6 +64,7 @@ impl Window {
         }
     }
 
+    /// What was read and isn't passed.
     pub fn as_slice(&self) -> &[u8]
         ensures { result.now ≡ items self.now }
     {
@@ -103,9 +108,10 @@ impl Window {
         requires { count ≤ room self.old }
         ensures more { OnOk result ((more : List ℕ) × (items self.new ≡ items self.old ++ more) × (length more ≡ count) × Shows (D.image disk.old) at more) }
         ensures outside { IfSome (D.image disk.old) (λ f. at + count ≤ length f → IfErr result IsOutside) }
+        ensures short { IfErr result (λ e. IsOutside e ⊎ ((e ≡ BrokenAt 32) × (D.fault_count disk.new ≡ D.fault_count disk.old))) }
         ensures image { D.image disk.new ≡ D.image disk.old }
         ensures cause { HasOpenCause (D.fault_count disk.old) (D.fault_count disk.new) result }
-        ensures still { OnlyReads D.may_leave D.moment D.left_since disk.old disk.new }
+        ensures still { OnlyReads D.may_leave D.moment D.left_since D.past D.left_with disk.old disk.new }
     {
         let end = self.end;
         read_piece(disk, at, &mut self.buffer[end..end + count])?;
@@ -114,7 +120,7 @@ impl Window {
     }
 
     /// Has so many bytes of the file from this place on, or all that are left.
-    fn fill<D: Disk>(
+    pub fn fill<D: Disk>(
         &mut self,
         disk: &mut D,
         place: u64,
@@ -129,9 +135,10 @@ impl Window {
         ensures long { OnOk result (min need left ≤ length (items self.new)) }
         ensures held { OnOk result (length (items self.new) ≤ left) }
         ensures outside { IfSome (D.image disk.old) (λ f. place + left ≤ length f → IfErr result IsOutside) }
+        ensures short { IfErr result (λ e. IsOutside e ⊎ ((e ≡ BrokenAt 32) × (D.fault_count disk.new ≡ D.fault_count disk.old))) }
         ensures image { D.image disk.new ≡ D.image disk.old }
         ensures cause { HasOpenCause (D.fault_count disk.old) (D.fault_count disk.new) result }
-        ensures still { OnlyReads D.may_leave D.moment D.left_since disk.old disk.new }
+        ensures still { OnlyReads D.may_leave D.moment D.left_since D.past D.left_with disk.old disk.new }
     {
         let held = self.as_slice().len() as u64;
         if need.min(left) <= held {
@@ -157,7 +164,7 @@ impl Window {
         ensures outside { IfSome (D.image disk.old) (λ f. place + left ≤ length f → IfErr result IsOutside) }
         ensures image { D.image disk.new ≡ D.image disk.old }
         ensures cause { HasOpenCause (D.fault_count disk.old) (D.fault_count disk.new) result }
-        ensures still { OnlyReads D.may_leave D.moment D.left_since disk.old disk.new }
+        ensures still { OnlyReads D.may_leave D.moment D.left_since D.past D.left_with disk.old disk.new }
     {
         self.fill(disk, place, 24, left)?;
         let bytes = self.as_slice();

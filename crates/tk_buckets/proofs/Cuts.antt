@@ -1,5 +1,5 @@
 -- A block is taken out of its bucket on a disk.
-use Rattle.std.proofs.Common.{◌≡◌, ℕ, ◌+◌, ◌<◌, ◌≤◌, ◌^◌, List, length, true, refl, sym, ◌∙◌, ap, subst, arith}
+use Rattle.std.proofs.Common.{◌≡◌, ◌≢◌, ℕ, ◌+◌, ◌<◌, ◌≤◌, ◌^◌, List, length, true, refl, sym, ◌∙◌, ap, subst, arith}
 use Rattle.std.specs.Prelude.{min, Option, Some, None, IfSome, Result, OnOk}
 use Rattle.std.specs.Option.{option_map}
 use Rattle.std.specs.Int.{w64, to_be_bytes}
@@ -9,9 +9,9 @@ use Rattle.tk_disk.specs.Crash.{Torn, Follows, Within}
 use Rattle.tk_disk.specs.Disk.{put_at}
 use Rattle.tk_block.specs.Number.{u64_in}
 use Rattle.tk_block.specs.declared.head.StaticHead.{StaticHead}
-use Rattle.tk_buckets.specs.Chain.{IsLinked, IsChain, link_in, head_cell, has_block, cell_to, without}
+use Rattle.tk_buckets.specs.Chain.{IsLinked, IsChain, AreApart, link_in, head_cell, has_block, cell_to, without}
 use Rattle.tk_buckets.proofs.Links.{whole_long, head_before}
-use Rattle.tk_buckets.proofs.Unlinks.{cell_within, has_whole, left_out}
+use Rattle.tk_buckets.proofs.Unlinks.{cell_within, has_whole, left_out, other_left}
 
 some_same : (a b : ℕ) → Some a ≡ Some b → a ≡ b
 some_same a b e = cc
@@ -81,6 +81,15 @@ cut_leaves r h (Some f) new bucket place cell link places below small cut writte
     on_ok_weaker r
     (λ is. subst (λ (o : Option (List ℕ)). IfSome o (λ g. IsChain h g bucket (without place places))) (sym (is ∙ ap (λ (n : ℕ). Some (put_at cell (to_be_bytes w64 n) f)) c.link_is)) left)
     written
+
+pub cut_spares : {T E : Type 0} (r : Result T E) (h : StaticHead) (o new : Option (List ℕ)) (bucket other place cell link : ℕ) (places rest : List ℕ) → bucket < 2 ^ h.p → other < 2 ^ h.p → other ≢ bucket
+    → IfSome o (λ f. IsChain h f bucket places → has_block place places ≡ true → IsCut h f bucket place cell link places) → OnOk r (new ≡ option_map (put_at cell (to_be_bytes w64 link)) o)
+    → IfSome o (λ f. IsChain h f bucket places → has_block place places ≡ true → IsChain h f other rest → AreApart f places rest → OnOk r (IfSome new (λ g. IsChain h g other rest)))
+cut_spares r h None new bucket other place cell link places rest below within ne cut written = tt
+cut_spares r h (Some f) new bucket other place cell link places rest below within ne cut written = λ chain has kept apart.
+    let c = cut chain has in
+    let left = other_left h f bucket other place cell (to_be_bytes w64 link) places rest below within ne (omega (arith, c.within)) refl c.cell_is chain kept apart in
+    on_ok_weaker r (λ is. subst (λ (o : Option (List ℕ)). IfSome o (λ g. IsChain h g other rest)) (sym is) left) written
 
 always : (o : Option (List ℕ)) (A B : List ℕ → Type 0) (R : Type 0) → R → IfSome o (λ f. A f → B f → R)
 always None A B R so = tt

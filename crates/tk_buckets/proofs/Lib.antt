@@ -1,8 +1,12 @@
 pub mod Cuts
+pub mod Filled
 pub mod Follows
+pub mod Frames
 pub mod Links
+pub mod Lookups
 pub mod Moments
 pub mod Searches
+pub mod Seen
 pub mod Unlinks
 pub mod Writes
 pub mod Written

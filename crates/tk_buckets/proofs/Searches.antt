@@ -29,7 +29,7 @@ module _ (h : StaticHead) (f : List ℕ) (place : ℕ) (places : List ℕ) (cell
       record {
         rest = qs;
         linked = subst (λ (k : ℕ). IsLinked h f k qs) (sym (gives within ∙ ap (λ (k : ℕ). link_in f k) same)) linked.3;
-        among = some_behind h f place q qs other among;
+        among = some_behind place q qs other among;
         leads =
             ap (λ (k : ℕ). cell_to (k + 16) place qs) same
             ∙ sym (ap (λ (b : Bool). cond b at (cell_to (q + 16) place qs)) (ne_eqb q place other))
@@ -53,7 +53,7 @@ module _ (h : StaticHead) (f : List ℕ) (place : ℕ) (places : List ℕ) (cell
 
   two_left : (next : ℕ) (rest : List ℕ) → next ≢ place → IsLinked h f next rest → has_block place rest ≡ true → 2 ≤ length rest
   two_left next [] ne linked among = absurd (cc (among))
-  two_left next (q ∷ qs) ne linked among = omega (arith, more_left (link_in f q) qs linked.3 (some_behind h f place q qs (λ is. ne (linked.0 ∙ is)) among))
+  two_left next (q ∷ qs) ne linked among = omega (arith, more_left (link_in f q) qs linked.3 (some_behind place q qs (λ is. ne (linked.0 ∙ is)) among))
 
   -- the search ends at the block
   arrived : (at next steps : ℕ) → IsLinked h f (u64_in f cell) places → Toward at next steps → (next ≡ place) ⊎ (length f / 48 ≤ steps) → next ≡ place

@@ -21,7 +21,7 @@ head_says : (bytes : List ℕ) (place e : ℕ) → head_at bytes place ≡ Some 
 unfolding head_at
 head_says bytes place e found = (cond_some _ _ _ found).1
 
-number_behind : (f : List ℕ) (place i : ℕ) → u64_in f (place + i) ≡ u64_in (drop place f) i
+pub number_behind : (f : List ℕ) (place i : ℕ) → u64_in f (place + i) ≡ u64_in (drop place f) i
 unfolding u64_in
 number_behind f place i = ap (λ (l : List ℕ). from_be_bytes w64 (take 8 l)) (sym (drop-drop i place f))
 

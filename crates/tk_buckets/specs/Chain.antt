@@ -1,5 +1,5 @@
 -- A bucket as the list of the places of its blocks, the first of its chain first.
-use Rattle.std.specs.Prelude.{◌≡◌, ◌⊎◌, ℕ, ◌+◌, ◌*◌, ◌^◌, ◌<◌, ◌≤◌, List, [], ◌∷◌, length, drop, Bool, Some, if◌then◌else◌, ◌==◌}
+use Rattle.std.specs.Prelude.{◌≡◌, ◌⊎◌, ℕ, ◌+◌, ◌*◌, ◌^◌, ◌<◌, ◌≤◌, List, [], ◌∷◌, length, drop, Bool, true, Option, Some, IfSome, if◌then◌else◌, ◌==◌}
 use Rattle.std.specs.List.{list_any}
 use Rattle.tk_block.specs.Number.{u64_in}
 use Rattle.tk_block.specs.Text.{head_at, base_of}
@@ -30,10 +30,23 @@ pub record IsWhole (h : StaticHead) (f : List ℕ) (place : ℕ) : Type 0 where
   pub room : room_of body ≤ extent_in f place
   pub within : place + extent_in f place ≤ length f
 
+-- n bytes from `at` on are none of the block at this place
+abbrev pub IsBeside : List ℕ → (at n place : ℕ) → Type 0
+IsBeside f at n place = (at + n ≤ place) ⊎ (place + extent_in f place ≤ at)
+
+-- the same of each of these blocks
+abbrev pub AllBeside : List ℕ → (at n : ℕ) → List ℕ → Type 0
+AllBeside f at n [] = Unit {0}
+AllBeside f at n (q ∷ qs) = IsBeside f at n q × AllBeside f at n qs
+
 -- the block at a place has no byte in common with these
 abbrev pub IsApart : List ℕ → (place : ℕ) → List ℕ → Type 0
-IsApart f place [] = Unit {0}
-IsApart f place (q ∷ qs) = ((place + extent_in f place ≤ q) ⊎ (q + extent_in f q ≤ place)) × IsApart f place qs
+IsApart f place qs = AllBeside f place (extent_in f place) qs
+
+-- no block of the first list has a byte in common with one of the second
+abbrev pub AreApart : List ℕ → List ℕ → List ℕ → Type 0
+AreApart f [] rest = Unit {0}
+AreApart f (q ∷ qs) rest = IsApart f q rest × AreApart f qs rest
 
 -- blocks that stand whole and apart, of which the first is at this place, each next one where the link says, and the last link is 0
 abbrev pub IsLinked : StaticHead → List ℕ → (first : ℕ) → List ℕ → Type 0
@@ -65,6 +78,10 @@ cell_to cell place (q ∷ qs) = if q == place then cell else cell_to (q + 16) pl
 abbrev pub without : (place : ℕ) → List ℕ → List ℕ
 without place [] = []
 without place (q ∷ qs) = if q == place then qs else q ∷ without place qs
+
+-- what holds of a file, where it is told, and of a bucket's chain that has the block
+abbrev pub IfInChain : Option (List ℕ) → StaticHead → (bucket place : ℕ) → (List ℕ → List ℕ → Type 0) → Type 0
+IfInChain o h bucket place Q = (places : List ℕ) → IfSome o (λ f. IsChain h f bucket places → has_block place places ≡ true → Q f places)
 
 abbrev pub place_step : (p bucket : ℕ) → List ℕ → Placed → List ℕ
 place_step p bucket found x = if x.body.kind == 4 then [] else (if is_in p bucket x.body then x.place ∷ found else found)

@@ -1,1 +1,4 @@
 pub mod Chain
+pub mod Frame
+pub mod Lookup
+pub mod Seen

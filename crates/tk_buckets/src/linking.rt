@@ -1,12 +1,13 @@
 ghost use Rattle.std.specs.Prelude.{◌≡◌, ◌≢◌, ◌+◌, ◌*◌, ◌<◌, ◌≤◌, ◌^◌, ◌∷◌, ◌&&◌, ◌-◌, List, ℕ, length, true, nat_le, Some, None, IfOk, IfSome, OnOk, if◌then◌else◌};
 ghost use Rattle.std.specs.Option.{is_some, option_map};
 ghost use Rattle.std.specs.Int.{w64, to_be_bytes};
-ghost use Rattle.tk_disk.specs.Crash.{Torn, Follows, OnlyReads, LeavesOnly};
+ghost use Rattle.tk_disk.specs.Crash.{Torn, Follows, Elapses, OnlyReads, LeavesOnly, PastOnly};
+ghost use Rattle.tk_disk.specs.Past.{with_write, Writes};
 ghost use Rattle.tk_disk.specs.Disk.{put_at, HasCause};
 ghost use Rattle.tk_block.specs.Number.{u64_in};
 ghost use Rattle.tk_block.specs.Text.{base_of};
 ghost use Rattle.tk_block.specs.declared.head.StaticHead.{StaticHead};
-ghost use Rattle.tk_buckets.specs.Chain.{IsChain, IsLinked, IsNext, head_cell, link_in, has_block, cell_to, without};
+ghost use Rattle.tk_buckets.specs.Chain.{IsChain, IsLinked, IsNext, AreApart, IfInChain, head_cell, link_in, has_block, cell_to, without};
 
 use crate::read::number_at;
 use tk_block::StaticHead;
@@ -22,16 +23,27 @@ pub fn insert<D: Disk>(
     requires p { head.now.p ≤ 24 }
     requires bucket { bucket < 2 ^ head.now.p }
     requires heads { IfSome (D.image disk.old) (λ f. base_of head.now.p ≤ length f) }
+    // the file and its chains
     ensures written { OnOk result (D.image disk.new ≡ option_map (put_at (head_cell bucket) (to_be_bytes w64 place)) (D.image disk.old)) }
     ensures first { (places : List ℕ) → IfSome (D.image disk.old) (λ f. IsNext head.now f bucket place places
         → OnOk result (IfSome (D.image disk.new) (λ g. IsChain head.now g bucket (place ∷ places)))) }
     ensures others { (other : ℕ) (places : List ℕ) → other ≢ bucket → IfSome (D.image disk.old) (λ f. IsChain head.now f other places
         → OnOk result (IfSome (D.image disk.new) (λ g. IsChain head.now g other places))) }
     ensures told { is_some (D.image disk.new) ≡ is_some (D.image disk.old) }
+    // its counts
     ensures taken { D.taken_count disk.new ≡ D.taken_count disk.old }
     ensures cause { HasCause (D.fault_count disk.old) (D.fault_count disk.new) result }
+    // a crash: the head's eight bytes are all that is written
     ensures crash { Follows (Torn (head_cell bucket) 8) (D.may_leave disk.old) (D.may_leave disk.new) }
     ensures time { LeavesOnly D.moment D.left_since disk.old disk.new (λ c. (d : List ℕ) × D.may_leave disk.old d × Torn (head_cell bucket) 8 d c) }
+    ensures past { Writes (head_cell bucket) (to_be_bytes w64 place)
+        (D.past disk.old) (D.past disk.new) }
+    ensures told_past { IfSome (D.image disk.old) (λ _. OnOk result (D.past disk.new
+        ≡ with_write (head_cell bucket) (to_be_bytes w64 place) (D.past disk.old))) }
+    ensures pasts { PastOnly D.moment D.left_with disk.old disk.new
+        (Writes (head_cell bucket) (to_be_bytes w64 place) (D.past disk.old)) }
+    ensures time_with { Elapses (D.moment disk.old) (D.moment disk.new)
+        (D.left_with disk.old) (D.left_with disk.new) (λ x. (x.0 ≡ D.past disk.new) × D.may_leave disk.new x.1) }
 {
     disk.write_at(64 + 8 * bucket, &place.to_be_bytes())
 }
@@ -58,7 +70,7 @@ fn cell_of<D: Disk>(disk: &mut D, cell: u64, place: u64, len: u64) -> Result<Opt
     ensures image { D.image disk.new ≡ D.image disk.old }
     ensures more { D.taken_count disk.old ≤ D.taken_count disk.new }
     ensures cause { HasCause (D.fault_count disk.old) (D.fault_count disk.new) result }
-    ensures still { OnlyReads D.may_leave D.moment D.left_since disk.old disk.new }
+    ensures still { OnlyReads D.may_leave D.moment D.left_since D.past D.left_with disk.old disk.new }
 {
     let mut at = cell;
     let mut next = number_at(disk, cell)?;
@@ -82,17 +94,41 @@ pub fn unlink<D: Disk>(
     requires bucket { bucket < 2 ^ head.now.p }
     requires chain { IfSome (D.image disk.old) (λ f. (places : List ℕ) × IsChain head.now f bucket places × (has_block place places ≡ true)) }
     requires size { IfSome (D.image disk.old) (λ f. length f ≤ 2 ^ 40) }
-    ensures written { (places : List ℕ) → IfSome (D.image disk.old) (λ f. IsChain head.now f bucket places → has_block place places ≡ true
-        → OnOk result (D.image disk.new ≡ Some (put_at (cell_to (head_cell bucket) place places) (to_be_bytes w64 (link_in f place)) f))) }
-    ensures chain { (places : List ℕ) → IfSome (D.image disk.old) (λ f. IsChain head.now f bucket places → has_block place places ≡ true
-        → OnOk result (IfSome (D.image disk.new) (λ g. IsChain head.now g bucket (without place places)))) }
+    // the file and its chains
+    ensures written { IfInChain (D.image disk.old) head.now bucket place (λ f places. OnOk result
+        (D.image disk.new ≡ Some (put_at (cell_to (head_cell bucket) place places)
+        (to_be_bytes w64 (link_in f place)) f))) }
+    ensures chain { IfInChain (D.image disk.old) head.now bucket place (λ _ places. OnOk result
+        (IfSome (D.image disk.new) (λ g. IsChain head.now g bucket (without place places)))) }
+    // a bucket of which no block has a byte in common with one of this bucket keeps its chain
+    ensures others { (other : ℕ) (rest : List ℕ) → other < 2 ^ head.now.p → other ≢ bucket
+        → IfInChain (D.image disk.old) head.now bucket place (λ f places.
+        IsChain head.now f other rest → AreApart f places rest
+        → OnOk result (IfSome (D.image disk.new) (λ g. IsChain head.now g other rest))) }
     ensures told { is_some (D.image disk.new) ≡ is_some (D.image disk.old) }
+    // its counts
     ensures more { D.taken_count disk.old ≤ D.taken_count disk.new }
     ensures cause { HasCause (D.fault_count disk.old) (D.fault_count disk.new) result }
-    ensures crash { (places : List ℕ) → IfSome (D.image disk.old) (λ f. IsChain head.now f bucket places → has_block place places ≡ true
-        → Follows (Torn (cell_to (head_cell bucket) place places) 8) (D.may_leave disk.old) (D.may_leave disk.new)) }
-    ensures time { (places : List ℕ) → IfSome (D.image disk.old) (λ f. IsChain head.now f bucket places → has_block place places ≡ true
-        → LeavesOnly D.moment D.left_since disk.old disk.new (λ c. (d : List ℕ) × D.may_leave disk.old d × Torn (cell_to (head_cell bucket) place places) 8 d c)) }
+    // a crash: the eight bytes of the cell are all that is written
+    ensures crash { IfInChain (D.image disk.old) head.now bucket place (λ _ places.
+        Follows (Torn (cell_to (head_cell bucket) place places) 8)
+        (D.may_leave disk.old) (D.may_leave disk.new)) }
+    ensures time { IfInChain (D.image disk.old) head.now bucket place (λ _ places.
+        LeavesOnly D.moment D.left_since disk.old disk.new
+        (λ c. (d : List ℕ) × D.may_leave disk.old d
+        × Torn (cell_to (head_cell bucket) place places) 8 d c)) }
+    ensures past { IfInChain (D.image disk.old) head.now bucket place (λ f places.
+        Writes (cell_to (head_cell bucket) place places) (to_be_bytes w64 (link_in f place))
+        (D.past disk.old) (D.past disk.new)) }
+    ensures told_past { IfInChain (D.image disk.old) head.now bucket place (λ f places.
+        OnOk result (D.past disk.new ≡ with_write (cell_to (head_cell bucket) place places)
+        (to_be_bytes w64 (link_in f place)) (D.past disk.old))) }
+    ensures pasts { IfInChain (D.image disk.old) head.now bucket place (λ f places.
+        PastOnly D.moment D.left_with disk.old disk.new
+        (Writes (cell_to (head_cell bucket) place places)
+        (to_be_bytes w64 (link_in f place)) (D.past disk.old))) }
+    ensures time_with { Elapses (D.moment disk.old) (D.moment disk.new)
+        (D.left_with disk.old) (D.left_with disk.new) (λ x. (x.0 ≡ D.past disk.new) × D.may_leave disk.new x.1) }
 {
     let len = disk.len()?;
     let Some(cell) = cell_of(disk, 64 + 8 * bucket, place, len)? else {

@@ -32,7 +32,7 @@ fn follow<D: Disk>(
     ensures taken { (h : StaticHead) (places : List ℕ) → IfSome (D.image disk.old) (λ f. IsLinked h f first places → D.taken_count disk.new ≤ D.taken_count disk.old + 8 * length places) }
     ensures more { D.taken_count disk.old ≤ D.taken_count disk.new }
     ensures cause { HasFaultCause (D.fault_count disk.old) (D.fault_count disk.new) result }
-    ensures still { OnlyReads D.may_leave D.moment D.left_since disk.old disk.new }
+    ensures still { OnlyReads D.may_leave D.moment D.left_since D.past D.left_with disk.old disk.new }
 {
     let mut places = PlaceList::new(alloc);
     let mut next = first;
@@ -57,7 +57,7 @@ fn places_of<D: Disk>(
     ensures taken { (places : List ℕ) → IfSome (D.image disk.old) (λ f. IsChain head.now f bucket places → D.taken_count disk.new ≤ D.taken_count disk.old + 8 + 8 * length places) }
     ensures more { D.taken_count disk.old ≤ D.taken_count disk.new }
     ensures cause { HasFaultCause (D.fault_count disk.old) (D.fault_count disk.new) result }
-    ensures still { OnlyReads D.may_leave D.moment D.left_since disk.old disk.new }
+    ensures still { OnlyReads D.may_leave D.moment D.left_since D.past D.left_with disk.old disk.new }
 {
     let len = disk.len()?;
     let first = number_at(disk, 64 + 8 * bucket)?;
@@ -82,7 +82,7 @@ pub fn chain<D: Disk>(
     ensures more { D.taken_count disk.old ≤ D.taken_count disk.new }
     ensures cause { HasCause (D.fault_count disk.old) (D.fault_count disk.new) result }
     ensures never_full { NeverFull result }
-    ensures still { OnlyReads D.may_leave D.moment D.left_since disk.old disk.new }
+    ensures still { OnlyReads D.may_leave D.moment D.left_since D.past D.left_with disk.old disk.new }
 {
     match places_of(alloc, disk, head, bucket) {
         Ok(places) => Ok(places),

@@ -14,7 +14,7 @@ pub fn number_at<D: Disk>(disk: &mut D, at: u64) -> Result<u64, DiskError>
     ensures taken { D.taken_count disk.new ≤ D.taken_count disk.old + 8 }
     ensures more { D.taken_count disk.old ≤ D.taken_count disk.new }
     ensures cause { HasCause (D.fault_count disk.old) (D.fault_count disk.new) result }
-    ensures still { OnlyReads D.may_leave D.moment D.left_since disk.old disk.new }
+    ensures still { OnlyReads D.may_leave D.moment D.left_since D.past D.left_with disk.old disk.new }
 {
     let mut bytes = [0; 8];
     disk.read_at(at, &mut bytes)?;

@@ -5,6 +5,7 @@ use lib.ListN.{get_elem?}
 use Rattle.tk_model.specs.declared.record.Pair.{Pair}
 use Rattle.tk_model.specs.declared.record.Group.{Group}
 use Rattle.tk_model.specs.declared.record.Entry.{Entry}
+use Rattle.tk_model.specs.declared.record.Entry.TheVariants as entries
 use Rattle.tk_model.specs.declared.record.Change.{Change}
 use Rattle.tk_model.specs.Records.{find, Rising}
 use Rattle.tk_model.specs.Entries.{is_legal, changes_of, is_in_shard}
@@ -13,7 +14,7 @@ use Rattle.tk_model.proofs.NetChanges.{changes_reach}
 use Rattle.tk_core.specs.declared.frame.Frame.{Frame}
 use Rattle.tk_core.specs.Lists.{has, once_below}
 use Rattle.tk_core.specs.Caller.{Caller}
-use Rattle.tk_core.specs.Covers.{Reads, Writes, CoversWrites, stripe_lock, store_of, store_lock}
+use Rattle.tk_core.specs.Covers.{Reads, Writes, CoversReads, CoversWrites, HoldsStores, stripe_lock, store_of, store_lock}
 use Rattle.tk_core.specs.Rule.{map_after, shard, is_hard, Still, IsLawful, Knows, Sound, groups_of, hard_groups}
 use Rattle.tk_core.specs.Moves.{committed}
 use Rattle.tk_core.specs.Needs.{Concerns, MayCommit}
@@ -21,6 +22,14 @@ use Rattle.tk_core.proofs.Locks.{its, moved}
 use Rattle.tk_core.proofs.Calls.{Alike, call_alike, key_stays, store_stays, replay_snoc, legal_snoc, along_snoc, groups_stay, synced_snoc}
 use Rattle.tk_core.proofs.Stores.{other_lacks}
 use Rattle.tk_core.proofs.Facts.{at_last, placed_longer, prefix_longer, once_more, both, by_bool, not_both, prefix_self}
+
+hard_holds : (f : Frame) (held : List ℕ) (e : Entry) → is_hard e ≡ true → CoversReads f held e → HoldsStores f held
+hard_holds f held (entries.Proc ts) h c = absurd (cc (h))
+hard_holds f held (entries.Next w b found a) h c = absurd (cc (h))
+hard_holds f held (entries.Each ts) h c = absurd (cc (h))
+hard_holds f held (entries.Count n) h c = absurd (cc (h))
+hard_holds f held entries.Clear h c = absurd (cc (h))
+hard_holds f held (entries.Sync hard) h c = c
 
 module _ (f : Frame) (law : List Pair → Type 0) (m : List Pair) (log : List Entry) (owner : ℕ → ℕ) (spoilt away : ℕ → Bool) (stands : ℕ → List Group → ℕ → Type 0) (callers : List Caller)
     (sound : Sound f law m log owner spoilt away stands callers) (id : ℕ) (v : Caller) (at : get_elem? callers id ≡ some v) where
@@ -57,11 +66,16 @@ module _ (f : Frame) (law : List Pair → Type 0) (m : List Pair) (log : List En
     lacks : (i j : ℕ) (d : Caller) → j ≢ id → Knows f law m log owner spoilt away stands j d → has (store_lock f i) d.held ≡ true → has (store_lock f i) v.held ≡ false
     lacks i j d ne kn h = by_bool (has (store_lock f i) v.held) (λ t. absurd (not_both (has (store_lock f i) d.held) h (other_lacks f law m log owner spoilt away stands callers sound id v at (store_lock f i) j d ne kn t))) (λ t. t)
 
+    -- a hard synchronisation holds all stores
+    soft_for : (i : ℕ) → i < f.stores → has (store_lock f i) v.held ≡ false → is_hard e ≡ false
+    soft_for i low free = by_bool (is_hard e) (λ h. absurd (not_both (has (store_lock f i) v.held) (hard_holds f v.held e h may.reads i low) free)) (λ h. h)
+
     still_other : (j : ℕ) (d : Caller) → j ≢ id → Knows f law m log owner spoilt away stands j d → Still f m (log ++ e ∷ []) d
     still_other j d ne kn = record {
       records = λ k r. kn.still.records k r ∙ sym (ap (find k) (replay_snoc f.order log e m ∙ sym (changes_reach f.order e (map_after f m log) (rising log)))
           ∙ key_stays f v.held sound.frame k (alone j d k ne kn r) (changes_of f.order (map_after f m log) e) (map_after f m log) writes);
       groups = λ i low h. kn.still.groups i low h ∙ sym (groups_stay f m log e i (store_stays f v.held i low (lacks i j d ne kn h) (changes_of f.order (map_after f m log) e) writes));
+      hard = λ i low h. kn.still.hard i low h ∙ sym (ap (λ (es : List Entry). length (groups_of f m es i)) (synced_snoc log e (soft_for i low (lacks i j d ne kn h))));
     }
 
     -- a store at home isn't concerned
@@ -95,7 +109,7 @@ module _ (f : Frame) (law : List Pair → Type 0) (m : List Pair) (log : List En
           placed = (at_last log e n refl, placed_longer log (e ∷ []) v.mine k.placed);
           weighs = λ _ _. omega arith;
           heavy = λ _ _. omega arith;
-          still = record { records = λ _ _. refl; groups = λ _ _ _. refl };
+          still = record { records = λ _ _. refl; groups = λ _ _ _. refl; hard = λ _ _ _. refl };
           out = k.out;
           wants = k.wants;
           met = k.met;

@@ -14,7 +14,7 @@ use Rattle.tk_core.specs.Caller.{Caller, weight}
 use Rattle.tk_core.specs.Covers.{Reads, stripe_lock, store_of, store_lock}
 use Rattle.tk_core.specs.Rule.{Knows, Sound}
 use Rattle.tk_core.specs.Moves.{kept_half, new_half, joined, spent}
-use Rattle.tk_core.specs.Needs.{MaySplit, MayJoin}
+use Rattle.tk_core.specs.Needs.{IsIdle, MayJoin}
 use Rattle.tk_core.proofs.Locks.{its}
 use Rattle.tk_core.proofs.Facts.{at_longer, at_snoc, total_snoc, times_append, placed_append, count_append, has_append, none_held, total_two, total_alone, set_else, by_bool, not_both, hasnt_count, total_set, seats_stay}
 
@@ -23,14 +23,14 @@ module _ (f : Frame) (law : List Pair → Type 0) (m : List Pair) (log : List En
   own : Knows f law m log owner spoilt away stands id v
   own = sound.knows id v at
 
-  pub splits : MaySplit (length callers) v → Sound f law m log owner spoilt away stands (set callers id (kept_half v) ++ new_half v ∷ [])
+  pub splits : IsIdle v → Sound f law m log owner spoilt away stands (set callers id (kept_half v) ++ new_half v ∷ [])
   splits may = let k = own in let w : Caller = kept_half v in let n : Caller = new_half v in let rest : List Caller = set callers id w in
       let half : v.allowance / 2 + (v.allowance - v.allowance / 2) ≡ v.allowance = omega arith in
       record {
         frame = sound.frame;
         history = sound.history;
         holder = λ l j o. ⊎_elim
-            (λ (t : (j ≡ id) × (has l v.held ≡ true)). absurd (none_held l v.held may.held t.1))
+            (λ (t : (j ≡ id) × (has l v.held ≡ true)). absurd (none_held l v.held may.1 t.1))
             (λ (t : (j ≢ id) × (owner l ≡ suc j)). let h = sound.holder l j t.1 in (h.0, at_longer rest (n ∷ []) j h.0 (set_else callers id j w t.0 ∙ h.1), h.2))
             (its f law m log owner spoilt away stands callers sound id v at l j o);
         once = λ q. let a = total_snoc (λ (u : Caller). times q u.mine) rest n in let t = total_set (λ (u : Caller). times q u.mine) callers id v w at in let p = sound.once q in omega arith;
@@ -39,14 +39,14 @@ module _ (f : Frame) (law : List Pair → Type 0) (m : List Pair) (log : List En
         knows = λ j d e. ⊎_elim
             (λ (t : get_elem? rest j ≡ some d). seats_stay (Knows f law m log owner spoilt away stands) callers id w
             record {
-              spent = λ z. absurd (not_both v.live may.live z);
+              spent = λ z. absurd (not_both v.live may.0 z);
               owns = k.owns;
               seen = k.seen;
               base = k.base;
               placed = k.placed;
-              weighs = λ l h. absurd (none_held l v.held may.held h);
+              weighs = λ l h. absurd (none_held l v.held may.1 h);
               heavy = λ i h. let z = k.heavy i h in omega arith;
-              still = record { records = k.still.records; groups = k.still.groups };
+              still = record { records = k.still.records; groups = k.still.groups; hard = k.still.hard };
               out = k.out;
               wants = k.wants;
               met = k.met;
@@ -63,7 +63,7 @@ module _ (f : Frame) (law : List Pair → Type 0) (m : List Pair) (log : List En
               placed = tt;
               weighs = λ l h. absurd cc;
               heavy = λ i h. absurd (omega arith);
-              still = record { records = λ y r. absurd (nothing_read y r); groups = λ i low h. absurd cc };
+              still = record { records = λ y r. absurd (nothing_read y r); groups = λ i low h. absurd cc; hard = λ i low h. absurd cc };
               out = λ i. refl;
               wants = λ l z. absurd (cc (z));
               met = λ i h. absurd cc;
@@ -104,7 +104,7 @@ module _ (f : Frame) (law : List Pair → Type 0) (m : List Pair) (log : List En
               placed = tt;
               weighs = λ l h. absurd (none_held l u.held may.held.1 h);
               heavy = λ i h. absurd (omega arith);
-              still = record { records = ku.still.records; groups = ku.still.groups };
+              still = record { records = ku.still.records; groups = ku.still.groups; hard = ku.still.hard };
               out = ku.out;
               wants = λ l e. absurd (cc (e));
               met = λ i h. absurd cc;
@@ -121,7 +121,7 @@ module _ (f : Frame) (law : List Pair → Type 0) (m : List Pair) (log : List En
               weighs = λ l h. absurd (none_held l v.held may.held.0 h);
               heavy = λ i h. let d = count_append i v.broke u.broke in let e = length-append v.mine u.mine in let a = k.heavy i in let b = ku.heavy i in
                   heavier (count i v.broke) (count i u.broke) (weight v) (weight u) (weight w) a b (omega arith) (omega arith);
-              still = record { records = k.still.records; groups = k.still.groups };
+              still = record { records = k.still.records; groups = k.still.groups; hard = k.still.hard };
               out = k.out;
               wants = k.wants;
               met = λ i h. ⊎_elim (λ (t : has i v.met ≡ true). k.met i t) (λ (t : has i u.met ≡ true). ku.met i t) (has_append i v.met u.met h);

@@ -60,7 +60,7 @@ module _ (f : Frame) (law : List Pair → Type 0) (m : List Pair) (log : List En
         placed = k.placed;
         weighs = k.weighs;
         heavy = k.heavy;
-        still = record { records = λ _ _. refl; groups = λ _ _ _. refl };
+        still = record { records = λ _ _. refl; groups = λ _ _ _. refl; hard = λ _ _ _. refl };
         out = k.out;
         wants = k.wants;
         met = k.met;
@@ -80,7 +80,7 @@ module _ (f : Frame) (law : List Pair → Type 0) (m : List Pair) (log : List En
         placed = k.placed;
         weighs = k.weighs;
         heavy = k.heavy;
-        still = record { records = k.still.records; groups = k.still.groups };
+        still = record { records = k.still.records; groups = k.still.groups; hard = k.still.hard };
         out = k.out;
         wants = λ z e. let same : l ≡ z = cc (e) in subst (λ (q : ℕ). AllBelow q v.held) same may.rising;
         met = k.met;
@@ -123,7 +123,7 @@ module _ (f : Frame) (law : List Pair → Type 0) (m : List Pair) (log : List En
         placed = k.placed;
         weighs = λ _ _. may.weighs;
         heavy = k.heavy;
-        still = record { records = λ _ _. refl; groups = λ _ _ _. refl };
+        still = record { records = λ _ _. refl; groups = λ _ _ _. refl; hard = λ _ _ _. refl };
         out = λ i. dite (ℕ_discrete (store_lock f i) l)
             (λ e. let a : away i ≡ false = sound.home i (ap owner e ∙ may.free) in k.out i ∙ closed (has (store_lock f i) v.held) (has (store_lock f i) (l ∷ v.held)) (away i) a)
             (λ ne. k.out i ∙ ap (λ (b : Bool). b && away i) (sym (has_skip (store_lock f i) l v.held ne)));
@@ -190,7 +190,7 @@ module _ (f : Frame) (law : List Pair → Type 0) (m : List Pair) (log : List En
         placed = k.placed;
         weighs = λ y h. k.weighs y (has_without y l v.held h).1;
         heavy = k.heavy;
-        still = record { records = λ y h. k.still.records y (fewer l y h); groups = λ i low h. k.still.groups i low (has_without (store_lock f i) l v.held h).1 };
+        still = record { records = λ y h. k.still.records y (fewer l y h); groups = λ i low h. k.still.groups i low (has_without (store_lock f i) l v.held h).1; hard = λ i low h. k.still.hard i low (has_without (store_lock f i) l v.held h).1 };
         out = λ i. k.out i ∙ ap (λ (b : Bool). b && away i) (sym (has_without_other (store_lock f i) l v.held (apart i)));
         wants = λ _ e. absurd (cc (e));
         met = k.met;
@@ -214,7 +214,7 @@ module _ (f : Frame) (law : List Pair → Type 0) (m : List Pair) (log : List En
         placed = k.placed;
         weighs = λ y h. k.weighs y (has_without y l v.held h).1;
         heavy = λ _ _. k.weighs l may.holds;
-        still = record { records = λ y h. k.still.records y (fewer l y h); groups = λ q low h. k.still.groups q low (has_without (store_lock f q) l v.held h).1 };
+        still = record { records = λ y h. k.still.records y (fewer l y h); groups = λ q low h. k.still.groups q low (has_without (store_lock f q) l v.held h).1; hard = λ q low h. k.still.hard q low (has_without (store_lock f q) l v.held h).1 };
         out = λ q. dite (ℕ_discrete (store_lock f q) l)
             (λ e. k.out q ∙ closed (has (store_lock f q) v.held) (has (store_lock f q) (without l v.held)) (away q) (ap away (back q e) ∙ is_home))
             (λ ne. k.out q ∙ ap (λ (b : Bool). b && away q) (sym (has_without_other (store_lock f q) l v.held ne)));

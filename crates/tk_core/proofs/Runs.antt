@@ -59,7 +59,7 @@ module _ (f : Frame) (s t : State) (sound : IsSound f s) where
   step (moves.Look id) x = to _ x.after (looks _ _ _ _ _ _ _ _ _ sound id x.caller x.is_caller x.needs)
   step (moves.Out id i) x = to _ x.after (takes_out _ _ _ _ _ _ _ _ _ sound id x.caller x.is_caller i x.needs)
   step (moves.Back id i is_broken) x = to _ x.after (backs f s id x.caller i is_broken x.now sound x.is_caller x.needs)
-  step (moves.Split id) x = to _ x.after (splits _ _ _ _ _ _ _ _ _ sound id x.caller x.is_caller x.needs)
+  step (moves.Split id) x = to _ x.after (splits _ _ _ _ _ _ _ _ _ sound id x.caller x.is_caller (x.needs.live, x.needs.held))
   step (moves.Join id other) x = to _ x.after (joins _ _ _ _ _ _ _ _ _ sound id x.caller x.is_caller other x.gone x.is_gone x.needs)
 
 pub run : (f : Frame) (xs : List Move) (s t : State) → IsSound f s → Runs f xs s t → IsSound f t
@@ -75,7 +75,7 @@ first_knows f law m stands j = record {
   placed = tt;
   weighs = λ l h. absurd cc;
   heavy = λ i h. absurd (omega arith);
-  still = record { records = λ _ _. refl; groups = λ _ _ _. refl };
+  still = record { records = λ _ _. refl; groups = λ _ _ _. refl; hard = λ _ _ _. refl };
   out = λ i. refl;
   wants = λ l e. absurd (cc (e));
   met = λ i h. absurd cc;

@@ -58,7 +58,7 @@ module _ (f : Frame) (law : List Pair → Type 0) (m : List Pair) (log : List En
         placed = k.placed;
         weighs = k.weighs;
         heavy = k.heavy;
-        still = record { records = k.still.records; groups = k.still.groups };
+        still = record { records = k.still.records; groups = k.still.groups; hard = k.still.hard };
         out = λ q. dite (ℕ_discrete q i)
             (λ e. subst (λ (z : ℕ). has z (i ∷ v.out) ≡ (has (store_lock f z) v.held && put away i true z)) (sym e)
             (has_head i v.out ∙ sym (ap (λ (a : Bool). has (store_lock f i) v.held && a) (put_at away i true i refl) ∙ ap (λ (b : Bool). b && true) may.holds)))
@@ -105,7 +105,7 @@ module _ (f : Frame) (law : List Pair → Type 0) (m : List Pair) (log : List En
         placed = k.placed;
         weighs = k.weighs;
         heavy = k.heavy;
-        still = record { records = k.still.records; groups = k.still.groups };
+        still = record { records = k.still.records; groups = k.still.groups; hard = k.still.hard };
         out = λ q. dite (ℕ_discrete q i)
             (λ e. subst (λ (z : ℕ). has z (without i v.out) ≡ (has (store_lock f z) v.held && put away i false z)) (sym e)
             (hasnt_without i v.out ∙ sym (ap (λ (a : Bool). has (store_lock f i) v.held && a) (put_at away i false i refl) ∙ ap (λ (z : Bool). z && false) holds)))
@@ -186,3 +186,38 @@ module _ (f : Frame) (law : List Pair → Type 0) (m : List Pair) (log : List En
           → Sound f law m log owner (put spoilt i b) (put away i false) stands' (set callers id (record v { out = without i v.out; breaking = cond b (i ∷ v.breaking) v.breaking }))
       by_broken true live holds here good low = newly live holds good low
       by_broken false live holds here good low = alike stands' i false good live holds here there low
+
+-- what stands at home may change where the new is good for the groups
+module _ (f : Frame) (law : List Pair → Type 0) (m : List Pair) (log : List Entry) (owner : ℕ → ℕ) (spoilt away : ℕ → Bool) (stands stands' : ℕ → List Group → ℕ → Type 0) where
+  knows_still : (j : ℕ) (v : Caller) → Knows f law m log owner spoilt away stands j v → Knows f law m log owner spoilt away stands' j v
+  knows_still j v k = record {
+    spent = k.spent;
+    owns = k.owns;
+    seen = k.seen;
+    base = k.base;
+    placed = k.placed;
+    weighs = k.weighs;
+    heavy = k.heavy;
+    still = k.still;
+    out = k.out;
+    wants = k.wants;
+    met = k.met;
+    found = k.found;
+    breaking = k.breaking;
+  }
+
+  pub stands_anew : (callers : List Caller) → Sound f law m log owner spoilt away stands callers
+      → ((i : ℕ) → i < f.stores → spoilt i ≡ false → away i ≡ false → stands' i (groups_of f m log i) (hard_groups f m log i))
+      → Sound f law m log owner spoilt away stands' callers
+  stands_anew callers s good = record {
+    frame = s.frame;
+    history = s.history;
+    holder = s.holder;
+    once = s.once;
+    made = s.made;
+    weights = s.weights;
+    knows = λ j v e. knows_still j v (s.knows j v e);
+    home = s.home;
+    stores = good;
+    tally = s.tally;
+  }

@@ -12,7 +12,7 @@ use Rattle.tk_core.specs.Steps.{Steps, Runs, RunsFar, start, MayStart}
 use Rattle.tk_core.specs.declared.moves.Move.{Move}
 use Rattle.tk_model.specs.Records.{find, Rising}
 use Rattle.tk_model.specs.Entries.{is_legal, after_entry, changes_of, is_in_shard}
-use Rattle.tk_core.specs.Rule.{map_after, groups_of, known, owed, shard}
+use Rattle.tk_core.specs.Rule.{map_after, groups_of, hard_groups, known, owed, owed_hard, shard}
 use Rattle.tk_core.specs.Rings.{HasNoRing}
 use Rattle.tk_core.specs.States.{State, IsSound, IsCaller, after_take_stripe, after_take_store, after_miss, after_give_stripe, after_give_store, after_look, after_out, after_back, after_commit, after_split, after_join}
 
@@ -33,6 +33,13 @@ pub record StoresKeep (f : Frame) : Type 0 where
   pub out : (s : State) (id : ℕ) (v : Caller) (i : ℕ) → IsSound f s → IsCaller s id v → MayTakeOut f i v → IsSound f (after_out id v i s)
   pub back : (s : State) (id : ℕ) (v : Caller) (i : ℕ) (is_broken : Bool) (now : List Group → ℕ → Bool) → IsSound f s → IsCaller s id v
       → MayPutBack f s.first s.log (λ gs n. now gs n ≡ true) i is_broken v → IsSound f (after_back id v i is_broken now s)
+
+-- what stores stand for may change alone, where it is the groups that they owe
+abbrev pub StandsAnew : Frame → Type 0
+StandsAnew f = (s : State) (now : ℕ → List Group → ℕ → Bool) → IsSound f s
+    → ((i : ℕ) → i < f.stores → s.spoilt i ≡ false → s.away i ≡ false
+    → now i (groups_of f s.first s.log i) (hard_groups f s.first s.log i) ≡ true)
+    → IsSound f (record s { stands = now })
 
 abbrev pub CommitKeeps : Frame → Type 0
 CommitKeeps f = (s : State) (id : ℕ) (v : Caller) (e : Entry) → IsSound f s → IsCaller s id v → MayCommit f (λ m. s.law m ≡ true) s.first e v → IsSound f (after_commit id v e s)
@@ -72,9 +79,12 @@ pub record CoversEnough (f : Frame) : Type 0 where
 
 -- what a caller of a state that meets the rule knows is so now
 pub record CallerKnows (f : Frame) (s : State) (id : ℕ) (v : Caller) : Type 0 where
-  -- the records that its locks cover, the groups of the stores whose locks it holds, and which of these are broken
+  -- the records that its locks cover, the groups of the stores whose locks it holds, how many of these are safe, and which
+  -- of the stores are broken
   pub records : (k : List ℕ) → Reads f v.held k → known f s.first v k ≡ find k (map_after f s.first s.log)
   pub groups : (i : ℕ) → i < f.stores → has (store_lock f i) v.held ≡ true → owed f s.first v i ≡ groups_of f s.first s.log i
+  pub hard : (i : ℕ) → i < f.stores → has (store_lock f i) v.held ≡ true
+      → owed_hard f s.first v i ≡ hard_groups f s.first s.log i
   pub broken : (i : ℕ) → has (store_lock f i) v.held ≡ true → knows_broken v i ≡ s.spoilt i
   -- with the locks of all stores, all records
   pub all : HoldsStores f v.held → map_after f s.first v.base ≡ map_after f s.first s.log

@@ -61,10 +61,15 @@ known f m v k = find k (map_after f m v.base)
 abbrev pub owed : Frame → List Pair → Caller → ℕ → List Group
 owed f m v i = groups_of f m v.base i
 
+-- how many of these it knows to be safe
+abbrev pub owed_hard : Frame → List Pair → Caller → ℕ → ℕ
+owed_hard f m v i = hard_groups f m v.base i
+
 -- what a caller knows is so now: nothing that its locks cover has changed
 pub record Still (f : Frame) (m : List Pair) (log : List Entry) (v : Caller) : Type 0 where
   pub records : (k : List ℕ) → Reads f v.held k → known f m v k ≡ find k (map_after f m log)
   pub groups : (i : ℕ) → i < f.stores → has (store_lock f i) v.held ≡ true → owed f m v i ≡ groups_of f m log i
+  pub hard : (i : ℕ) → i < f.stores → has (store_lock f i) v.held ≡ true → owed_hard f m v i ≡ hard_groups f m log i
 
 -- the history is legal from the first map on, and each map along it meets the law of the stores
 pub record IsLawful (f : Frame) (law : List Pair → Type 0) (m : List Pair) (log : List Entry) : Type 0 where

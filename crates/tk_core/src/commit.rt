@@ -9,10 +9,9 @@ ghost use Rattle.tk_core.specs.declared.moves.Move.TheVariants as moves;
 
 use crate::covers::{are_all_ready, covers_reads, may_change};
 use crate::machine::Row;
-use crate::values::value_at;
 use crate::{Core, Frame};
 use std::alloc::Global;
-use tk_model::{Action, Entry, NoMemory, Order, Pair, PlainMap, Touch};
+use tk_model::{Action, Entry, NoMemory, Order, Pair, PlainMap, Touch, value_at};
 
 impl Core {
     /// Whether the caller may commit the call; if so, the records go on to those after it.

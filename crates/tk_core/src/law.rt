@@ -1,5 +1,5 @@
 //! Laws, as functions that do nothing.
-ghost use Rattle.tk_core.specs.Laws.{NoRings, LocksKeep, LookKeeps, StoresKeep, CommitKeeps, HalvesKeep, WholeHasAll, AllReached, CoversEnough, CallersKnow};
+ghost use Rattle.tk_core.specs.Laws.{NoRings, LocksKeep, LookKeeps, StoresKeep, StandsAnew, CommitKeeps, HalvesKeep, WholeHasAll, AllReached, CoversEnough, CallersKnow};
 
 use crate::Frame;
 
@@ -18,9 +18,11 @@ pub fn locks_keep_the_rule(frame: Frame)
     let _ = frame;
 }
 
-/// Stores that are taken out and put back, whole or broken, keep the rule.
+/// Stores that are taken out and put back, whole or broken, keep the rule, and so does what they stand for while they are
+/// at home.
 pub fn stores_keep_the_rule(frame: Frame)
-    ensures { StoresKeep frame }
+    ensures moves { StoresKeep frame }
+    ensures anew { StandsAnew frame }
 {
     let _ = frame;
 }

@@ -10,7 +10,6 @@ mod machine;
 mod moves;
 mod run;
 mod steps;
-mod values;
 
 pub use frame::Frame;
 pub use law::{

@@ -1,9 +1,8 @@
-use crate::values::value_at;
 use crate::{Core, Move, MoveList};
 use std::alloc::Global;
 use std::test::Fail;
 use tk_hashnum::{mix, stripe};
-use tk_model::{Action, Bytes, Entry, Order, PlainMap, Touch, TouchList};
+use tk_model::{Action, Bytes, Entry, Order, PlainMap, Touch, TouchList, value_at};
 
 /// A move of a core of one store and 16 stripes: its store has lock 16, and the key "a" stripe 11.
 #[derive(Clone, Copy)]

@@ -11,7 +11,7 @@ use Rattle.tk_disk.specs.Replay.{State, replay, settled, written, shortened, spe
 use Rattle.tk_disk.specs.Memory.{TapeView, state_now, MayLeave}
 use Rattle.tk_disk.specs.Redone.{redone, HasNoSync, IsKeptImage}
 use Rattle.tk_disk.proofs.History.{spent-append, spent-take}
-use Rattle.tk_disk.proofs.States.{settled-sound, written-sound, shortened-sound, longest-put_at}
+use Rattle.tk_disk.proofs.States.{settled-sound, written-sound, shortened-sound, longest-put_at, outside-more, outside-less}
 
 pub replay-sound : (steps : List Step) (store : List ℕ) (s : State) → IsSound s → AreWithin steps store s.now → IsSound (replay steps store s)
 unfolding settled written shortened
@@ -66,7 +66,7 @@ redone-all (Sync ∷ steps) store s keep le = redone-all steps store (settled s.
 -- a write or a cut more leaves an image one
 image-written : (s : State) (at : ℕ) (bytes c : List ℕ) → IsImage s c → IsImage (written at bytes s) c
 unfolding written
-image-written s at bytes c image = record { no_shorter = image.no_shorter; same = λ i here fixed out. image.same i here fixed out.1; whole = λ clean. absurd (cc (clean)) }
+image-written s at bytes c image = record { no_shorter = image.no_shorter; same = λ i here fixed out. image.same i here fixed (outside-less i _ s.past.writes out).1; whole = λ clean. absurd (cc (clean)) }
 
 image-shortened : (s : State) (n : ℕ) (c : List ℕ) → IsImage s c → IsImage (shortened n s) c
 unfolding shortened
@@ -87,7 +87,12 @@ image-part : (s : State) (at : ℕ) (bytes part : List ℕ) → IsSound s → at
 unfolding written
 image-part s at bytes part sound within le =
     let reads = (written-sound s at part sound within).reads in
-    record { no_shorter = reads.no_shorter; same = λ i here fixed out. reads.same i here fixed (narrow at (length bytes) (length part) i le out.0, out.1); whole = λ clean. absurd (cc (clean)) }
+    record {
+      no_shorter = reads.no_shorter;
+      same = λ i here fixed out.
+          let apart = outside-less i _ s.past.writes out in reads.same i here fixed (outside-more i _ s.past.writes (narrow at (length bytes) (length part) i le apart.0) apart.1);
+      whole = λ clean. absurd (cc (clean));
+    }
 
 -- steps done again in part
 pub redone-image : (steps : List Step) (store : List ℕ) (s : State) (keep : ℕ) → HasNoSync steps → IsSound s → AreWithin steps store s.now → IsImage (replay steps store s) (redone keep steps store s.now)

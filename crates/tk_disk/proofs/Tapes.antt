@@ -6,9 +6,10 @@ use Rattle.tk_disk.specs.Crash.{Torn, Shortened, Follows, Within, Only, Elapses}
 use Rattle.tk_disk.specs.Disk.{put_at}
 use Rattle.tk_disk.specs.declared.tape.Step.{Step}
 use Rattle.tk_disk.specs.declared.tape.Step.TheVariants.{Write, Cut, Sync}
-use Rattle.tk_disk.specs.Memory.{TapeView, state_after, state_now, MayLeave, LeftSince, Grows}
+use Rattle.tk_disk.specs.Memory.{TapeView, state_after, state_now, MayLeave, LeftSince, LeftWith, AtSome, TapeElapses, TapeWrites, TapeCuts, TapeSyncs, TapeRests, tape_past, Grows}
 use Rattle.tk_disk.specs.TapeInside.{Tells}
-use Rattle.tk_disk.specs.Replay.{State, replay, settled, written, shortened, spent, IsLeft, IsSound}
+use Rattle.tk_disk.specs.Replay.{State, replay, settled, written, shortened, spent, IsLeft, IsLeftWith, IsSound}
+use Rattle.tk_disk.specs.Past.{with_write, with_cut, settled_on}
 use Rattle.tk_disk.proofs.Still.{still}
 use Rattle.tk_disk.proofs.States.{write_follows, cut_follows, settled-only, settled-sound, written-sound, shortened-sound, put_at-outside, length-put_at, take-torn}
 use Rattle.tk_disk.proofs.Redoing.{within-more}
@@ -28,6 +29,10 @@ pub begun_only : (v : TapeView) (bytes : List ℕ) → v.first ≡ bytes → v.s
 unfolding state_now settled
 begun_only v bytes first none c left =
     elim (subst (λ (l : List Step). IsLeft (replay l v.store (settled v.first)) c) none left) [ inl now ↦ now ∙ first | inr image ↦ settled-only v.first c image ∙ first ]
+
+pub begun_past : (v : TapeView) (bytes : List ℕ) → v.first ≡ bytes → v.steps ≡ [] → tape_past v ≡ settled_on bytes
+unfolding state_now settled
+begun_past v bytes first none = ap (λ (l : List Step). (replay l v.store (settled v.first)).past) none ∙ ap settled_on first
 
 module _ (v w : TapeView) (step : Step) (bytes : List ℕ) (grows : Grows v w step bytes) (all_stored : spent v.steps ≡ length v.store) where
   earlier : (k : ℕ) → k ≤ length v.steps → state_after w k ≡ replay (take k v.steps) v.store (settled v.first)
@@ -53,25 +58,53 @@ module _ (v w : TapeView) (step : Step) (bytes : List ℕ) (grows : Grows v w st
   length-steps : length w.steps ≡ length v.steps + 1
   length-steps = ap length grows.steps ∙ length-append v.steps (step ∷ [])
 
-  pub elapses : Elapses (length v.steps) (length w.steps) (LeftSince v) (LeftSince w) (MayLeave w)
-  elapses = record {
+  elapses_as : {I : Type 0} (P : State → I → Type 0) → Elapses (length v.steps) (length w.steps) (AtSome P v) (AtSome P w) (P (state_now w))
+  elapses_as P = record {
     later = omega (arith, length-steps);
-    nothing_else = λ t c le since. elim since [
+    nothing_else = λ t x le since. elim since [
       | inl past ↦ elim (cases_lt past.0 (length v.steps)) [
-        | inl before ↦ inl (inl (past.0, past.1, before, subst (λ (s : State). IsLeft s c) (same_after past.0 (omega arith)) past.3))
-        | inr last ↦ inl (inr (subst (λ (s : State). IsLeft s c) (ap (λ (k : ℕ). state_after w k) (omega (arith, last, past.2, length-steps)) ∙ last_after) past.3))
+        | inl before ↦ inl (inl (past.0, past.1, before, subst (λ (s : State). P s x) (same_after past.0 (omega arith)) past.3))
+        | inr last ↦ inl (inr (subst (λ (s : State). P s x) (ap (λ (k : ℕ). state_after w k) (omega (arith, last, past.2, length-steps)) ∙ last_after) past.3))
       ]
       | inr now ↦ inr now
     ];
-    keeps = λ t c le since. elim since [
-      | inl past ↦ inl (past.0, past.1, omega (arith, past.2, length-steps), subst (λ (s : State). IsLeft s c) (sym (same_after past.0 (omega (arith, past.2)))) past.3)
-      | inr now ↦ inl (length v.steps, le, omega (arith, length-steps), subst (λ (s : State). IsLeft s c) (sym last_after) now)
+    keeps = λ t x le since. elim since [
+      | inl past ↦ inl (past.0, past.1, omega (arith, past.2, length-steps), subst (λ (s : State). P s x) (sym (same_after past.0 (omega (arith, past.2)))) past.3)
+      | inr now ↦ inl (length v.steps, le, omega (arith, length-steps), subst (λ (s : State). P s x) (sym last_after) now)
     ];
   }
 
+  elapses : TapeElapses v w
+  elapses = record { time = elapses_as IsLeft; pasts = elapses_as IsLeftWith }
+
+-- the bytes and the past after a step
+now-written : (at : ℕ) (bytes : List ℕ) (s : State) → (written at bytes s).now ≡ put_at at bytes s.now
+unfolding written
+now-written at bytes s = refl
+
+past-written : (at : ℕ) (bytes : List ℕ) (s : State) → (written at bytes s).past ≡ with_write at bytes s.past
+unfolding written
+past-written at bytes s = refl
+
+past-shortened : (n : ℕ) (s : State) → (shortened n s).past ≡ with_cut n s.past
+unfolding shortened
+past-shortened n s = refl
+
+past-settled : (file : List ℕ) → (settled file).past ≡ settled_on file
+unfolding settled
+past-settled file = refl
+
+now-shortened : (n : ℕ) (s : State) → (shortened n s).now ≡ take n s.now
+unfolding shortened
+now-shortened n s = refl
+
+now-settled : (file : List ℕ) → (settled file).now ≡ file
+unfolding settled
+now-settled file = refl
+
 -- a write
 module _ (v w : TapeView) (at : ℕ) (bytes : List ℕ) (grows : Grows v w (Write at (length bytes)) bytes) (all_stored : spent v.steps ≡ length v.store) where
-  pub state-write : state_now w ≡ written at bytes (state_now v)
+  state-write : state_now w ≡ written at bytes (state_now v)
   unfolding state_now
   state-write =
       ap (λ (f : List ℕ). replay w.steps w.store (settled f)) grows.first
@@ -90,15 +123,24 @@ module _ (v w : TapeView) (at : ℕ) (bytes : List ℕ) (grows : Grows v w (Writ
     },
   )
 
-  pub write_crash : IsSound (state_now v) → at ≤ length (state_now v).now → Follows (Torn at (length bytes)) (MayLeave v) (MayLeave w)
+  write_crash : IsSound (state_now v) → at ≤ length (state_now v).now → Follows (Torn at (length bytes)) (MayLeave v) (MayLeave w)
   write_crash sound within c left = elim (subst (λ (s : State). IsLeft s c) state-write left) [
     | inl now ↦ write_now c within now
     | inr image ↦ let d = write_follows (state_now v) at bytes c sound image in (d.0, inr d.1, d.2)
   ]
 
+  pub wrote : IsSound (state_now v) → at ≤ length (state_now v).now → TapeWrites at bytes v w
+  wrote sound within = record {
+    bytes = ap (λ (s : State). s.now) state-write ∙ now-written at bytes (state_now v);
+    past = ap (λ (s : State). s.past) state-write ∙ past-written at bytes (state_now v);
+    crash = write_crash sound within;
+    time = elapses v w (Write at (length bytes)) bytes grows all_stored;
+    grows = grows;
+  }
+
 -- a cut
 module _ (v w : TapeView) (n : ℕ) (grows : Grows v w (Cut n) []) where
-  pub state-cut : state_now w ≡ shortened n (state_now v)
+  state-cut : state_now w ≡ shortened n (state_now v)
   unfolding state_now
   state-cut =
       ap (λ (f : List ℕ). replay w.steps w.store (settled f)) grows.first
@@ -110,15 +152,24 @@ module _ (v w : TapeView) (n : ℕ) (grows : Grows v w (Cut n) []) where
   unfolding shortened
   cut_now c is = ((state_now v).now, inl refl, take-torn n (state_now v).now c is)
 
-  pub cut_crash : IsSound (state_now v) → Follows (Shortened n) (MayLeave v) (MayLeave w)
+  cut_crash : IsSound (state_now v) → Follows (Shortened n) (MayLeave v) (MayLeave w)
   cut_crash sound c left = elim (subst (λ (s : State). IsLeft s c) state-cut left) [
     | inl now ↦ cut_now c now
     | inr image ↦ let d = cut_follows (state_now v) n c sound image in (d.0, inr d.1, d.2)
   ]
 
+  pub was_cut : IsSound (state_now v) → spent v.steps ≡ length v.store → TapeCuts n v w
+  was_cut sound all_stored = record {
+    bytes = ap (λ (s : State). s.now) state-cut ∙ now-shortened n (state_now v);
+    past = ap (λ (s : State). s.past) state-cut ∙ past-shortened n (state_now v);
+    crash = cut_crash sound;
+    time = elapses v w (Cut n) [] grows all_stored;
+    grows = grows;
+  }
+
 -- a hard sync
 module _ (v w : TapeView) (grows : Grows v w Sync []) where
-  pub state-sync : state_now w ≡ settled (state_now v).now
+  state-sync : state_now w ≡ settled (state_now v).now
   unfolding state_now
   state-sync =
       ap (λ (f : List ℕ). replay w.steps w.store (settled f)) grows.first
@@ -126,25 +177,22 @@ module _ (v w : TapeView) (grows : Grows v w Sync []) where
       ∙ ap (λ (l : List ℕ). replay (v.steps ++ Sync ∷ []) l (settled v.first)) (grows.store ∙ append-nil v.store)
       ∙ replay-sync v.steps v.store (settled v.first)
 
-  pub sync_only : Only (state_now v).now (MayLeave w)
+  sync_only : Only (state_now v).now (MayLeave w)
   unfolding settled
   sync_only c left = elim (subst (λ (s : State). IsLeft s c) state-sync left) [ inl now ↦ now | inr image ↦ settled-only (state_now v).now c image ]
 
-  pub sync_crash : Within (MayLeave v) (MayLeave w)
+  sync_crash : Within (MayLeave v) (MayLeave w)
   sync_crash c left = inl (sync_only c left)
 
--- the bytes after a step
-pub now-written : (at : ℕ) (bytes : List ℕ) (s : State) → (written at bytes s).now ≡ put_at at bytes s.now
-unfolding written
-now-written at bytes s = refl
-
-pub now-shortened : (n : ℕ) (s : State) → (shortened n s).now ≡ take n s.now
-unfolding shortened
-now-shortened n s = refl
-
-pub now-settled : (file : List ℕ) → (settled file).now ≡ file
-unfolding settled
-now-settled file = refl
+  pub synced : spent v.steps ≡ length v.store → TapeSyncs v w
+  synced all_stored = record {
+    bytes = ap (λ (s : State). s.now) state-sync ∙ now-settled (state_now v).now;
+    past = ap (λ (s : State). s.past) state-sync ∙ past-settled (state_now v).now;
+    durable = sync_only;
+    crash = sync_crash;
+    time = elapses v w Sync [] grows all_stored;
+    grows = grows;
+  }
 
 pub told : (v : TapeView) (bytes : List ℕ) → Tells v.first v.steps v.store bytes → (state_now v).now ≡ bytes
 unfolding state_now
@@ -196,14 +244,12 @@ module _ (start : List ℕ) (done after : List Step) (kept held bytes now : List
 unfoldable pub less_room : TapeView → ℕ → TapeView
 less_room v n = record { first = v.first; steps = v.steps; store = v.store; room = n }
 
-pub passes-bytes : (v : TapeView) (n : ℕ) → (state_now (less_room v n)).now ≡ (state_now v).now
-unfolding state_now less_room
-passes-bytes v n = refl
-
-pub passes-crash : (v : TapeView) (n : ℕ) → Within (MayLeave v) (MayLeave (less_room v n))
-unfolding state_now less_room
-passes-crash v n c left = left
-
-pub passes-time : (v : TapeView) (n : ℕ) → Elapses (length v.steps) (length (less_room v n).steps) (LeftSince v) (LeftSince (less_room v n)) (MayLeave (less_room v n))
+pub rested : (v : TapeView) (n : ℕ) → TapeRests v (less_room v n)
 unfolding state_now state_after less_room
-passes-time v n = still (length v.steps) (LeftSince v) (MayLeave v)
+rested v n = record {
+  bytes = refl;
+  past = refl;
+  crash = λ c left. left;
+  time = record { time = still (length v.steps) (LeftSince v) (MayLeave v); pasts = still (length v.steps) (LeftWith v) (IsLeftWith (state_now v)) };
+  stays = record { first = refl; steps = refl; store = refl };
+}

@@ -8,6 +8,7 @@ pub mod MemDisk
 pub mod MemFolder
 pub mod Memory
 pub mod MemoryLaws
+pub mod Past
 pub mod Places
 pub mod Redone
 pub mod Replay

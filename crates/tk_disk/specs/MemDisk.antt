@@ -3,9 +3,9 @@ use Rattle.std.specs.Prelude.{◌≡◌, ◌↔◌, ◌+◌, ◌-◌, ℕ, List,
 use Rattle.std.specs.List.{list_any}
 use Rattle.tk_disk.specs.declared.disk.DiskError.{DiskError}
 use Rattle.tk_disk.specs.declared.memory.MemDisk.{MemDisk}
-use Rattle.tk_disk.specs.Crash.{Elapses}
-use Rattle.tk_disk.specs.Disk.{capped}
-use Rattle.tk_disk.specs.Memory.{TapeView, tape_bytes, MayLeave, LeftSince}
+use Rattle.tk_disk.specs.Disk.{capped, HasCause}
+use Rattle.tk_disk.specs.Memory.{TapeView, tape_bytes, tape_past, MayLeave, LeftSince, LeftWith, TapeElapses}
+use Rattle.tk_disk.specs.Past.{Past}
 use Rattle.tk_disk.specs.Redone.{IsKeptImage}
 
 -- what the disk holds
@@ -27,9 +27,17 @@ mem_moment d = length d.tape.steps
 abbrev pub MemLeftSince : MemDisk → ℕ → List ℕ → Type 0
 MemLeftSince d = LeftSince d.tape
 
--- time goes on from one state to another
+-- what was written and cut since the last hard sync
+abbrev pub mem_past : MemDisk → Past
+mem_past d = tape_past d.tape
+
+-- at some moment from one on this was the past, and a crash might have left that
+abbrev pub MemLeftWith : MemDisk → ℕ → Past × List ℕ → Type 0
+MemLeftWith d = LeftWith d.tape
+
+-- time goes on from one state to another, over images, and over pasts with images
 abbrev pub MemElapses : MemDisk → MemDisk → Type 0
-MemElapses old new = Elapses (mem_moment old) (mem_moment new) (MemLeftSince old) (MemLeftSince new) (MemMayLeave new)
+MemElapses old new = TapeElapses old.tape new.tape
 
 -- the image in which the first `keep` bytes written since the last hard sync stand, and a cut where all bytes before it do
 abbrev pub IsKeptOf : MemDisk → ℕ → List ℕ → Type 0
@@ -67,11 +75,13 @@ is_listed call list = list_any (λ k. k == call) list
 abbrev pub mem_fails : MemDisk → ℕ → Bool
 mem_fails d need = is_listed d.calls d.list || nat_lt d.tape.room need
 
--- A call that takes so much room fails exactly where it is to fail, and then changes nothing but the counts.
+-- A call that takes so much room fails exactly where it is to fail, and then changes nothing but the counts. Time goes on.
 pub record RunsByList {T : Type 0} (need : ℕ) (old new : MemDisk) (result : Result T DiskError) : Type 0 where
   pub exact : IsErr result ↔ (mem_fails old need ≡ true)
+  pub cause : HasCause (mem_faults old) (mem_faults new) result
   pub counted : OnErr result (mem_faults new ≡ capped (mem_faults old + 1))
   pub unchanged : OnErr result (mem_tape new ≡ mem_tape old)
   pub spent : OnOk result (mem_room new ≡ mem_room old - need)
   pub list : mem_list new ≡ mem_list old
   pub calls : mem_calls new ≡ capped (mem_calls old + 1)
+  pub time : MemElapses old new

@@ -9,7 +9,9 @@ use Rattle.tk_disk.specs.declared.mem_folder.Slot.TheVariants.{Here, Out}
 use Rattle.tk_disk.specs.declared.memory.MemDisk.{MemDisk}
 use Rattle.tk_disk.specs.Crash.{Only}
 use Rattle.tk_disk.specs.Disk.{capped}
-use Rattle.tk_disk.specs.MemDisk.{mem_bytes, mem_room, mem_list, mem_calls, mem_faults, mem_taken, mem_moment, is_listed, MemMayLeave, MemLeftSince}
+use Rattle.tk_disk.specs.MemDisk.{mem_bytes, mem_room, mem_list, mem_calls, mem_faults, mem_taken, mem_moment, mem_past, is_listed, MemMayLeave, MemLeftSince, MemLeftWith}
+use Rattle.tk_disk.specs.Past.{Past, settled_on}
+use Rattle.tk_disk.specs.Folder.{KeepsHistory}
 use Rattle.tk_disk.specs.Places.{held_at}
 
 -- what a name's slot, or its absence, says: its disk, what its file holds, whether the disk is out, and its count of faults
@@ -47,6 +49,16 @@ SlotLeftSince None t c = c ≡ []
 SlotLeftSince (Some (Here d)) t c = MemLeftSince d t c
 SlotLeftSince (Some (Out n)) t c = ⊥
 
+abbrev pub slot_past : Option Slot → Past
+slot_past None = settled_on []
+slot_past (Some (Here d)) = mem_past d
+slot_past (Some (Out n)) = settled_on []
+
+abbrev pub SlotLeftWith : Option Slot → ℕ → Past × List ℕ → Type 0
+SlotLeftWith None t x = (x.0 ≡ settled_on []) × (x.1 ≡ [])
+SlotLeftWith (Some (Here d)) t x = MemLeftWith d t x
+SlotLeftWith (Some (Out n)) t x = ⊥
+
 -- the disk of a name, where it is there and not out
 abbrev pub folder_disk : MemFolder → List ℕ → Option MemDisk
 folder_disk f name = slot_disk (held_at f.places.items name)
@@ -74,6 +86,18 @@ folder_moment_of f name = slot_moment (held_at f.places.items name)
 -- what a crash at some moment from one on may have left at a name
 abbrev pub FolderLeftSince : MemFolder → List ℕ → ℕ → List ℕ → Type 0
 FolderLeftSince f name = SlotLeftSince (held_at f.places.items name)
+
+-- what was written and cut since the last hard sync at a name
+abbrev pub folder_past_of : MemFolder → List ℕ → Past
+folder_past_of f name = slot_past (held_at f.places.items name)
+
+-- at some moment from one on this was the past at a name, and a crash might have left that
+abbrev pub FolderLeftWith : MemFolder → List ℕ → ℕ → Past × List ℕ → Type 0
+FolderLeftWith f name = SlotLeftWith (held_at f.places.items name)
+
+-- both folders tell the same history of the file at a name
+abbrev pub FolderKeeps : (old new : MemFolder) → List ℕ → Type 0
+FolderKeeps = KeepsHistory folder_moment_of FolderLeaves FolderLeftSince folder_past_of FolderLeftWith
 
 abbrev pub folder_tells : MemFolder → Bool
 folder_tells f = true
@@ -114,6 +138,7 @@ pub record IsNewDisk (room : ℕ) (d : MemDisk) : Type 0 where
   pub room_left : mem_room d ≡ room
   pub list : mem_list d ≡ []
   pub moment : mem_moment d ≡ 0
+  pub past : mem_past d ≡ settled_on []
   pub calls : mem_calls d ≡ 0
   pub faults : mem_faults d ≡ 0
   pub taken : mem_taken d ≡ 0

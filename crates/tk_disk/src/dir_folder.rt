@@ -81,8 +81,9 @@ impl<R: Drop> DirFolder<R> {
 }
 
 impl<R: Files<File = File>> Folder for DirFolder<R> {
-    ghost use Rattle.std.specs.Prelude.{None, false};
+    ghost use Rattle.std.specs.Prelude.{None, [], false};
     ghost use Rattle.tk_disk.specs.DirFolder.{dir_is_out, dir_disk_faults, dir_faults};
+    ghost use Rattle.tk_disk.specs.Past.{settled_on};
 
     type D = FileDisk;
 
@@ -102,11 +103,21 @@ impl<R: Files<File = File>> Folder for DirFolder<R> {
 
     ghost left_since = { λ _ _ _ _. ⊥ };
 
+    ghost past_of = { λ _ _. settled_on [] };
+
+    ghost left_with = { λ _ _ _ _. ⊥ };
+
     ghost reads_left = { λ d name f told. Prim.cc };
 
     ghost counts_now = { λ d name t c le now. now };
 
     ghost only_now = { λ d name c left. left };
+
+    ghost counts_with = { λ d name t c le now. now };
+
+    ghost only_with = { λ d name x left. absurd left };
+
+    ghost since_with = { λ d name t x left. left };
 
     fn faults(&self) -> u64 {
         self.faults

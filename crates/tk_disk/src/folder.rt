@@ -1,7 +1,8 @@
 ghost use Rattle.std.specs.Prelude.{◌≡◌, ◌≢◌, ◌≤◌, ℕ, List, [], Bool, true, false, IsSome, IfOk, IfSome, IfNone, OnOk, OnErr, OnSome, IsErrOf, Some, None};
 ghost use Rattle.std.specs.declared.option.Option.{Option};
 ghost use Rattle.tk_disk.specs.Disk.{HasCause, HasFaultCause};
-ghost use Rattle.tk_disk.specs.Folder.{or_empty, SameBut, SameHistory};
+ghost use Rattle.tk_disk.specs.Folder.{or_empty, SameBut, SameHistory, KeepsHistory};
+ghost use Rattle.tk_disk.specs.Past.{Past};
 
 use crate::{Disk, DiskError};
 
@@ -33,6 +34,12 @@ pub trait Folder {
     /// What a crash at some moment from one on may have left at a name.
     ghost left_since: { Self → List ℕ → ℕ → List ℕ → Type 0 };
 
+    /// The past of a file, as its disk tells it. The past of an absent one is that of an empty one.
+    ghost past_of: { Self → List ℕ → Past };
+
+    /// At some moment from one on this was the past of a name's file, and a crash might have left that.
+    ghost left_with: { Self → List ℕ → ℕ → Past × List ℕ → Type 0 };
+
     fn faults(&self) -> u64
         ensures { result ≡ fault_count self.now };
 
@@ -54,10 +61,18 @@ pub trait Folder {
         ensures tells { tells self.new ≡ tells self.old }
         ensures cause { HasFaultCause (fault_count self.old) (fault_count self.new) result }
         ensures unmet { IsErrOf result DiskError.NoMemory → fault_count self.new ≡ fault_count self.old }
-        ensures crash { IfOk result (λ o. IfSome o (λ d. SameHistory (moment_of self.old name.now) (Self.D.moment d) (leaves self.old name.now) (Self.D.may_leave d) (left_since self.old name.now) (Self.D.left_since d))) }
-        ensures none_crash { IfOk result (λ o. IfNone o (SameHistory (moment_of self.old name.now) (moment_of self.new name.now) (leaves self.old name.now) (leaves self.new name.now) (left_since self.old name.now) (left_since self.new name.now))) }
-        ensures err_crash { OnErr result (SameHistory (moment_of self.old name.now) (moment_of self.new name.now) (leaves self.old name.now) (leaves self.new name.now) (left_since self.old name.now) (left_since self.new name.now)) }
-        ensures others_crash { (m : List ℕ) → m ≢ name.now → SameHistory (moment_of self.old m) (moment_of self.new m) (leaves self.old m) (leaves self.new m) (left_since self.old m) (left_since self.new m) };
+        ensures crash { IfOk result (λ o. IfSome o (λ d.
+            SameHistory (moment_of self.old name.now) (Self.D.moment d)
+            (leaves self.old name.now) (Self.D.may_leave d)
+            (left_since self.old name.now) (Self.D.left_since d)
+            (past_of self.old name.now) (Self.D.past d)
+            (left_with self.old name.now) (Self.D.left_with d))) }
+        ensures none_crash { IfOk result (λ o. IfNone o (
+            KeepsHistory moment_of leaves left_since past_of left_with self.old self.new name.now)) }
+        ensures err_crash { OnErr result (
+            KeepsHistory moment_of leaves left_since past_of left_with self.old self.new name.now) }
+        ensures others_crash { (m : List ℕ) → m ≢ name.now →
+            KeepsHistory moment_of leaves left_since past_of left_with self.old self.new m };
 
     /// Puts a disk back under its name, also where it answers a fault.
     fn give(&mut self, name: &str, disk: Self::D) -> Result<(), DiskError>
@@ -70,8 +85,13 @@ pub trait Folder {
         ensures others_count { SameBut name.now (disk_faults self.old) (disk_faults self.new) }
         ensures tells { tells self.new ≡ tells self.old }
         ensures cause { HasCause (fault_count self.old) (fault_count self.new) result }
-        ensures crash { SameHistory (Self.D.moment disk) (moment_of self.new name.now) (Self.D.may_leave disk) (leaves self.new name.now) (Self.D.left_since disk) (left_since self.new name.now) }
-        ensures others_crash { (m : List ℕ) → m ≢ name.now → SameHistory (moment_of self.old m) (moment_of self.new m) (leaves self.old m) (leaves self.new m) (left_since self.old m) (left_since self.new m) };
+        ensures crash { SameHistory (Self.D.moment disk) (moment_of self.new name.now)
+            (Self.D.may_leave disk) (leaves self.new name.now)
+            (Self.D.left_since disk) (left_since self.new name.now)
+            (Self.D.past disk) (past_of self.new name.now)
+            (Self.D.left_with disk) (left_with self.new name.now) }
+        ensures others_crash { (m : List ℕ) → m ≢ name.now →
+            KeepsHistory moment_of leaves left_since past_of left_with self.old self.new m };
 
     /// What a file holds is one of the images.
     ghost reads_left: { (folder : Self) (name f : List ℕ) → file folder name ≡ Some f → leaves folder name f };
@@ -81,4 +101,12 @@ pub trait Folder {
 
     /// Since this moment there is no other.
     ghost only_now: { (folder : Self) (name c : List ℕ) → left_since folder name (moment_of folder name) c → leaves folder name c };
+
+    /// With the past of this moment, too.
+    ghost counts_with: { (folder : Self) (name : List ℕ) (t : ℕ) (c : List ℕ) → t ≤ moment_of folder name → leaves folder name c → left_with folder name t (past_of folder name, c) };
+
+    ghost only_with: { (folder : Self) (name : List ℕ) (x : Past × List ℕ) → left_with folder name (moment_of folder name) x → (x.0 ≡ past_of folder name) × leaves folder name x.1 };
+
+    /// What was left with a past was left.
+    ghost since_with: { (folder : Self) (name : List ℕ) (t : ℕ) (x : Past × List ℕ) → left_with folder name t x → left_since folder name t x.1 };
 }

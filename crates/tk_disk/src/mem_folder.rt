@@ -81,14 +81,16 @@ fn put_back(places: &mut [Place<Slot>], name: &str, disk: MemDisk)
 
 impl MemFolder {
     ghost use Rattle.tk_disk.specs.Folder.{NoneOut, SameHistory};
-    ghost use Rattle.tk_disk.specs.MemDisk.{mem_faults, mem_moment, MemMayLeave, MemLeftSince};
-    ghost use Rattle.tk_disk.specs.MemFolder.{folder_disk, folder_file, folder_is_out, folder_disk_faults, folder_faults, folder_room, folder_list, folder_calls, folder_fails, folder_moment_of, FolderLeaves, FolderLeftSince, IsNewDisk};
+    ghost use Rattle.tk_disk.specs.Past.{settled_on};
+    ghost use Rattle.tk_disk.specs.MemDisk.{mem_faults, mem_moment, mem_past, MemMayLeave, MemLeftSince, MemLeftWith};
+    ghost use Rattle.tk_disk.specs.MemFolder.{folder_disk, folder_file, folder_is_out, folder_disk_faults, folder_faults, folder_room, folder_list, folder_calls, folder_fails, folder_moment_of, folder_past_of, FolderLeaves, FolderLeftSince, FolderLeftWith, FolderKeeps, IsNewDisk};
 
     /// A folder of no files. Each disk that it creates has the room, and fails by it alone.
     pub fn new(alloc: Global, room: u64, faults: FaultList) -> MemFolder
         ensures empty { (name : List ℕ) → folder_disk result name ≡ None }
         ensures crash { (name c : List ℕ) → FolderLeaves result name c → c ≡ [] }
         ensures moment { (name : List ℕ) → folder_moment_of result name ≡ 0 }
+        ensures past { (name : List ℕ) → folder_past_of result name ≡ settled_on [] }
         ensures out { NoneOut (folder_is_out result) }
         ensures disk_faults { (name : List ℕ) → folder_disk_faults result name ≡ 0 }
         ensures room { folder_room result ≡ room }
@@ -110,9 +112,13 @@ impl MemFolder {
     pub fn add(&mut self, name: &str, disk: MemDisk) -> Result<(), NoMemory>
         requires home { folder_is_out self.old name.now ≡ false }
         ensures here { OnOk result (folder_disk self.new name.now ≡ Some disk) }
-        ensures crash { OnOk result (SameHistory (mem_moment disk) (folder_moment_of self.new name.now) (MemMayLeave disk) (FolderLeaves self.new name.now) (MemLeftSince disk) (FolderLeftSince self.new name.now)) }
-        ensures err_crash { OnErr result (SameHistory (folder_moment_of self.old name.now) (folder_moment_of self.new name.now) (FolderLeaves self.old name.now) (FolderLeaves self.new name.now) (FolderLeftSince self.old name.now) (FolderLeftSince self.new name.now)) }
-        ensures others_crash { (m : List ℕ) → m ≢ name.now → SameHistory (folder_moment_of self.old m) (folder_moment_of self.new m) (FolderLeaves self.old m) (FolderLeaves self.new m) (FolderLeftSince self.old m) (FolderLeftSince self.new m) }
+        ensures crash { OnOk result (SameHistory (mem_moment disk) (folder_moment_of self.new name.now)
+            (MemMayLeave disk) (FolderLeaves self.new name.now)
+            (MemLeftSince disk) (FolderLeftSince self.new name.now)
+            (mem_past disk) (folder_past_of self.new name.now)
+            (MemLeftWith disk) (FolderLeftWith self.new name.now)) }
+        ensures err_crash { OnErr result (FolderKeeps self.old self.new name.now) }
+        ensures others_crash { (m : List ℕ) → m ≢ name.now → FolderKeeps self.old self.new m }
         ensures out { folder_is_out self.new name.now ≡ false }
         ensures count { OnOk result (folder_disk_faults self.new name.now ≡ mem_faults disk) }
         ensures others { SameBut name.now (folder_disk self.old) (folder_disk self.new) }
@@ -182,10 +188,10 @@ impl Folder for MemFolder {
     ghost use Rattle.std.specs.Prelude.{◌≡◌, ◌≢◌, ℕ, List, true, false, IsSome, IfOk, IfSome, IfNone, OnOk, OnErr, OnSome, None, Some, IsErrOf};
     ghost use Rattle.tk_disk.specs.Disk.{HasCause, HasFaultCause};
     ghost use Rattle.tk_disk.specs.Folder.{or_empty, SameBut, SameHistory};
-    ghost use Rattle.tk_disk.specs.FolderLaws.{slot_reads, slot_counts_now, slot_only_now};
-    ghost use Rattle.tk_disk.specs.MemDisk.{mem_image, mem_faults, mem_moment, MemMayLeave, MemLeftSince};
+    ghost use Rattle.tk_disk.specs.FolderLaws.{slot_reads, slot_counts_now, slot_only_now, slot_counts_with, slot_only_with, slot_since_with};
+    ghost use Rattle.tk_disk.specs.MemDisk.{mem_image, mem_faults, mem_moment, mem_past, MemMayLeave, MemLeftSince, MemLeftWith};
     ghost use Rattle.tk_disk.specs.Places.{held_at};
-    ghost use Rattle.tk_disk.specs.MemFolder.{folder_tells, folder_disk, folder_file, folder_is_out, folder_disk_faults, folder_faults, folder_room, folder_moment_of, FolderLeaves, FolderLeftSince, FailsByList, IsTakenFrom};
+    ghost use Rattle.tk_disk.specs.MemFolder.{folder_tells, folder_disk, folder_file, folder_is_out, folder_disk_faults, folder_faults, folder_room, folder_moment_of, folder_past_of, FolderLeaves, FolderLeftSince, FolderLeftWith, FolderKeeps, FailsByList, IsTakenFrom};
 
     type D = MemDisk;
 
@@ -205,11 +211,21 @@ impl Folder for MemFolder {
 
     ghost left_since = { FolderLeftSince };
 
+    ghost past_of = { folder_past_of };
+
+    ghost left_with = { FolderLeftWith };
+
     ghost reads_left = { λ f name. slot_reads (held_at f.places.items name) };
 
     ghost counts_now = { λ f name. slot_counts_now (held_at f.places.items name) };
 
     ghost only_now = { λ f name. slot_only_now (held_at f.places.items name) };
+
+    ghost counts_with = { λ f name. slot_counts_with (held_at f.places.items name) };
+
+    ghost only_with = { λ f name. slot_only_with (held_at f.places.items name) };
+
+    ghost since_with = { λ f name. slot_since_with (held_at f.places.items name) };
 
     fn faults(&self) -> u64 {
         self.faults
@@ -232,10 +248,15 @@ impl Folder for MemFolder {
         ensures tells { folder_tells self.new ≡ folder_tells self.old }
         ensures cause { HasFaultCause (folder_faults self.old) (folder_faults self.new) result }
         ensures unmet { IsErrOf result DiskError.NoMemory → folder_faults self.new ≡ folder_faults self.old }
-        ensures crash { IfOk result (λ o. IfSome o (λ d. SameHistory (folder_moment_of self.old name.now) (mem_moment d) (FolderLeaves self.old name.now) (MemMayLeave d) (FolderLeftSince self.old name.now) (MemLeftSince d))) }
-        ensures none_crash { IfOk result (λ o. IfNone o (SameHistory (folder_moment_of self.old name.now) (folder_moment_of self.new name.now) (FolderLeaves self.old name.now) (FolderLeaves self.new name.now) (FolderLeftSince self.old name.now) (FolderLeftSince self.new name.now))) }
-        ensures err_crash { OnErr result (SameHistory (folder_moment_of self.old name.now) (folder_moment_of self.new name.now) (FolderLeaves self.old name.now) (FolderLeaves self.new name.now) (FolderLeftSince self.old name.now) (FolderLeftSince self.new name.now)) }
-        ensures others_crash { (m : List ℕ) → m ≢ name.now → SameHistory (folder_moment_of self.old m) (folder_moment_of self.new m) (FolderLeaves self.old m) (FolderLeaves self.new m) (FolderLeftSince self.old m) (FolderLeftSince self.new m) }
+        ensures crash { IfOk result (λ o. IfSome o (λ d.
+            SameHistory (folder_moment_of self.old name.now) (mem_moment d)
+            (FolderLeaves self.old name.now) (MemMayLeave d)
+            (FolderLeftSince self.old name.now) (MemLeftSince d)
+            (folder_past_of self.old name.now) (mem_past d)
+            (FolderLeftWith self.old name.now) (MemLeftWith d))) }
+        ensures none_crash { IfOk result (λ o. IfNone o (FolderKeeps self.old self.new name.now)) }
+        ensures err_crash { OnErr result (FolderKeeps self.old self.new name.now) }
+        ensures others_crash { (m : List ℕ) → m ≢ name.now → FolderKeeps self.old self.new m }
         ensures exact { FailsByList self.old self.new result }
         ensures disk { IfOk result (λ o. IfSome o (IsTakenFrom (folder_disk self.old name.now) (folder_room self.old))) }
         ensures others_disk { SameBut name.now (folder_disk self.old) (folder_disk self.new) }
@@ -259,8 +280,12 @@ impl Folder for MemFolder {
         ensures others_count { SameBut name.now (folder_disk_faults self.old) (folder_disk_faults self.new) }
         ensures tells { folder_tells self.new ≡ folder_tells self.old }
         ensures cause { HasCause (folder_faults self.old) (folder_faults self.new) result }
-        ensures crash { SameHistory (mem_moment disk) (folder_moment_of self.new name.now) (MemMayLeave disk) (FolderLeaves self.new name.now) (MemLeftSince disk) (FolderLeftSince self.new name.now) }
-        ensures others_crash { (m : List ℕ) → m ≢ name.now → SameHistory (folder_moment_of self.old m) (folder_moment_of self.new m) (FolderLeaves self.old m) (FolderLeaves self.new m) (FolderLeftSince self.old m) (FolderLeftSince self.new m) }
+        ensures crash { SameHistory (mem_moment disk) (folder_moment_of self.new name.now)
+            (MemMayLeave disk) (FolderLeaves self.new name.now)
+            (MemLeftSince disk) (FolderLeftSince self.new name.now)
+            (mem_past disk) (folder_past_of self.new name.now)
+            (MemLeftWith disk) (FolderLeftWith self.new name.now) }
+        ensures others_crash { (m : List ℕ) → m ≢ name.now → FolderKeeps self.old self.new m }
         ensures exact { FailsByList self.old self.new result }
         ensures disk { folder_disk self.new name.now ≡ Some disk }
         ensures others_disk { SameBut name.now (folder_disk self.old) (folder_disk self.new) }

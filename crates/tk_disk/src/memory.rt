@@ -32,7 +32,8 @@ fn get(file: &[u8], at: u64, into: &mut [u8]) -> usize
 }
 
 impl MemDisk {
-    ghost use Rattle.tk_disk.specs.MemDisk.{mem_bytes, mem_moment, mem_tape, mem_room, mem_list, mem_calls, mem_faults, mem_taken, mem_fails, MemMayLeave, IsKeptOf};
+    ghost use Rattle.tk_disk.specs.Past.{settled_on};
+    ghost use Rattle.tk_disk.specs.MemDisk.{mem_bytes, mem_moment, mem_past, mem_tape, mem_room, mem_list, mem_calls, mem_faults, mem_taken, mem_fails, MemMayLeave, IsKeptOf};
 
     /// All its memory is taken here.
     pub fn new(
@@ -43,6 +44,7 @@ impl MemDisk {
     ) -> Result<MemDisk, NoMemory>
         ensures bytes { IfOk result (λ d. mem_bytes d ≡ bytes) }
         ensures crash { IfOk result (λ d. Only bytes (MemMayLeave d)) }
+        ensures past { IfOk result (λ d. mem_past d ≡ settled_on bytes) }
         ensures moment { IfOk result (λ d. mem_moment d ≡ 0) }
         ensures room { IfOk result (λ d. mem_room d ≡ room) }
         ensures list { IfOk result (λ d. mem_list d ≡ faults) }
@@ -95,16 +97,16 @@ impl MemDisk {
     }
 }
 
-#[tactic(auto, using(crate::proofs::Still::still, crate::proofs::Still::not_torn, crate::proofs::Still::not_cut, crate::proofs::Still::within_itself))]
+#[tactic(auto, using(crate::proofs::Still::same_time, crate::proofs::Still::later_time, crate::proofs::Still::later_write, crate::proofs::Still::later_cut, crate::proofs::Still::later_sync, crate::proofs::Still::later_rest, crate::proofs::Still::may_tear, crate::proofs::Still::may_shorten))]
 impl Disk for MemDisk {
-    ghost use Rattle.std.specs.Prelude.{◌≡◌, ◌+◌, ◌≤◌, ◌^◌, [], true, false, length, take, IfOk, OnOk};
+    ghost use Rattle.std.specs.Prelude.{◌≡◌, ◌+◌, ◌≤◌, ◌^◌, true, false, length, IfOk, OnOk};
     ghost use Rattle.std.specs.Option.{option_map};
-    ghost use Rattle.tk_disk.specs.Crash.{Torn, Shortened, Follows, Within, Only};
-    ghost use Rattle.tk_disk.specs.Disk.{put_at, ReadsFrom, HasCause, Takes};
-    ghost use Rattle.tk_disk.specs.MemDisk.{mem_bytes, mem_image, mem_moment, mem_tape, mem_faults, mem_taken, MemMayLeave, MemLeftSince, MemElapses, RunsByList};
-    ghost use Rattle.tk_disk.specs.Memory.{Grows, Stays};
-    ghost use Rattle.tk_disk.specs.declared.tape.Step.TheVariants.{Write, Cut, Sync};
-    ghost use Rattle.tk_disk.specs.MemoryLaws.{mem_reads, mem_counts_now, mem_only_now};
+    ghost use Rattle.tk_disk.specs.Crash.{Torn, Shortened, Follows};
+    ghost use Rattle.tk_disk.specs.Disk.{put_at, ReadsFrom, Takes};
+    ghost use Rattle.tk_disk.specs.MemDisk.{mem_bytes, mem_image, mem_moment, mem_tape, mem_past, mem_faults, mem_taken, MemMayLeave, MemLeftSince, MemLeftWith, RunsByList};
+    ghost use Rattle.tk_disk.specs.Past.{with_write, Writes};
+    ghost use Rattle.tk_disk.specs.Memory.{TapeWrites, TapeCuts, TapeSyncs, TapeRests};
+    ghost use Rattle.tk_disk.specs.MemoryLaws.{mem_reads, mem_counts_now, mem_only_now, mem_counts_with, mem_only_with, mem_since_with};
 
     ghost image = { mem_image };
 
@@ -113,6 +115,10 @@ impl Disk for MemDisk {
     ghost moment = { mem_moment };
 
     ghost left_since = { MemLeftSince };
+
+    ghost past = { mem_past };
+
+    ghost left_with = { MemLeftWith };
 
     ghost fault_count = { mem_faults };
 
@@ -124,6 +130,12 @@ impl Disk for MemDisk {
 
     ghost only_now = { λ d. mem_only_now d.tape };
 
+    ghost counts_with = { λ d. mem_counts_with d.tape };
+
+    ghost only_with = { λ d. mem_only_with d.tape };
+
+    ghost since_with = { λ d. mem_since_with d.tape };
+
     fn faults(&self) -> u64 {
         self.faults
     }
@@ -134,11 +146,7 @@ impl Disk for MemDisk {
 
     fn len(&mut self) -> Result<u64, DiskError>
         ensures value { IfOk result (λ n. n ≡ length (mem_bytes self.old)) }
-        ensures image { mem_bytes self.new ≡ mem_bytes self.old }
         ensures taken { mem_taken self.new ≡ mem_taken self.old }
-        ensures cause { HasCause (mem_faults self.old) (mem_faults self.new) result }
-        ensures crash { Within (MemMayLeave self.old) (MemMayLeave self.new) }
-        ensures time { MemElapses self.old self.new }
         ensures exact { RunsByList 0 self.old self.new result }
         ensures record { mem_tape self.new ≡ mem_tape self.old }
     {
@@ -149,11 +157,7 @@ impl Disk for MemDisk {
     fn read_at(&mut self, at: u64, into: &mut [u8]) -> Result<usize, DiskError>
         ensures bound { IfOk result (λ n. n ≤ length into.old) }
         ensures bytes { IfOk result (ReadsFrom (mem_bytes self.old) at into.new) }
-        ensures image { mem_bytes self.new ≡ mem_bytes self.old }
         ensures taken { Takes (mem_taken self.old) (mem_taken self.new) result }
-        ensures cause { HasCause (mem_faults self.old) (mem_faults self.new) result }
-        ensures crash { Within (MemMayLeave self.old) (MemMayLeave self.new) }
-        ensures time { MemElapses self.old self.new }
         ensures exact { RunsByList 0 self.old self.new result }
         ensures record { mem_tape self.new ≡ mem_tape self.old }
     {
@@ -168,11 +172,11 @@ impl Disk for MemDisk {
         requires end { at + length bytes.now ≤ 2 ^ 40 }
         ensures written { OnOk result (mem_image self.new ≡ option_map (put_at at bytes.now) (mem_image self.old)) }
         ensures taken { mem_taken self.new ≡ mem_taken self.old }
-        ensures cause { HasCause (mem_faults self.old) (mem_faults self.new) result }
-        ensures crash { Follows (Torn at (length bytes.now)) (MemMayLeave self.old) (MemMayLeave self.new) }
-        ensures time { MemElapses self.old self.new }
         ensures exact { RunsByList (64 + length bytes.now) self.old self.new result }
-        ensures record { OnOk result (Grows (mem_tape self.old) (mem_tape self.new) (Write at (length bytes.now)) bytes.now) }
+        ensures crash { Follows (Torn at (length bytes.now)) (MemMayLeave self.old) (MemMayLeave self.new) }
+        ensures past { Writes at bytes.now (mem_past self.old) (mem_past self.new) }
+        ensures told_past { OnOk result (mem_past self.new ≡ with_write at bytes.now (mem_past self.old)) }
+        ensures done { OnOk result (TapeWrites at bytes.now (mem_tape self.old) (mem_tape self.new)) }
     {
         self.begin(64 + bytes.len() as u64)?;
         self.tape.write(at, bytes);
@@ -181,13 +185,10 @@ impl Disk for MemDisk {
 
     fn cut(&mut self, len: u64) -> Result<(), DiskError>
         requires { len ≤ length (mem_bytes self.old) }
-        ensures cut { OnOk result (mem_image self.new ≡ option_map (take len) (mem_image self.old)) }
         ensures taken { mem_taken self.new ≡ mem_taken self.old }
-        ensures cause { HasCause (mem_faults self.old) (mem_faults self.new) result }
-        ensures crash { Follows (Shortened len) (MemMayLeave self.old) (MemMayLeave self.new) }
-        ensures time { MemElapses self.old self.new }
         ensures exact { RunsByList 64 self.old self.new result }
-        ensures record { OnOk result (Grows (mem_tape self.old) (mem_tape self.new) (Cut len) []) }
+        ensures crash { Follows (Shortened len) (MemMayLeave self.old) (MemMayLeave self.new) }
+        ensures done { OnOk result (TapeCuts len (mem_tape self.old) (mem_tape self.new)) }
     {
         self.begin(64)?;
         self.tape.cut(len);
@@ -195,15 +196,10 @@ impl Disk for MemDisk {
     }
 
     fn sync(&mut self, hard: bool) -> Result<(), DiskError>
-        ensures image { mem_bytes self.new ≡ mem_bytes self.old }
-        ensures durable { hard ≡ true → OnOk result (Only (mem_bytes self.old) (MemMayLeave self.new)) }
         ensures taken { mem_taken self.new ≡ mem_taken self.old }
-        ensures cause { HasCause (mem_faults self.old) (mem_faults self.new) result }
-        ensures crash { Within (MemMayLeave self.old) (MemMayLeave self.new) }
-        ensures time { MemElapses self.old self.new }
         ensures exact { RunsByList 64 self.old self.new result }
-        ensures hard_record { hard ≡ true → OnOk result (Grows (mem_tape self.old) (mem_tape self.new) Sync []) }
-        ensures soft_record { hard ≡ false → OnOk result (Stays (mem_tape self.old) (mem_tape self.new)) }
+        ensures hard { hard ≡ true → OnOk result (TapeSyncs (mem_tape self.old) (mem_tape self.new)) }
+        ensures soft { hard ≡ false → OnOk result (TapeRests (mem_tape self.old) (mem_tape self.new)) }
     {
         self.begin(64)?;
         if hard {

@@ -1,7 +1,8 @@
 ghost use Rattle.std.specs.Prelude.{◌≡◌, ◌+◌, ◌-◌, ◌++◌, [], ◌∷◌, ◌≤◌, ◌<◌, ◌^◌, length, take, IfOk, vec_len, vec_capacity};
 ghost use Rattle.tk_disk.specs.Disk.{put_at};
-ghost use Rattle.tk_disk.specs.Crash.{Torn, Shortened, Follows, Within, Only, Elapses};
-ghost use Rattle.tk_disk.specs.Memory.{tape_bytes, MayLeave, LeftSince, Grows, Stays};
+ghost use Rattle.tk_disk.specs.Crash.{Only};
+ghost use Rattle.tk_disk.specs.Memory.{tape_bytes, tape_past, MayLeave, TapeWrites, TapeCuts, TapeSyncs, TapeRests};
+ghost use Rattle.tk_disk.specs.Past.{settled_on};
 ghost use Rattle.tk_disk.specs.Redone.{redone, EndsWithLastSync, IsKeptImage};
 ghost use Rattle.tk_disk.specs.Replay.{spent, AreWithin};
 
@@ -134,6 +135,7 @@ impl Tape {
     pub fn new(alloc: Global, bytes: Vec<u8>, room: u64) -> Result<Tape, NoMemory>
         ensures bytes { IfOk result (λ t. tape_bytes t ≡ bytes.items) }
         ensures crash { IfOk result (λ t. Only bytes.items (MayLeave t)) }
+        ensures past { IfOk result (λ t. tape_past t ≡ settled_on bytes.items) }
         ensures steps { IfOk result (λ t. t.steps ≡ []) }
         ensures room { IfOk result (λ t. t.room ≡ room) }
     {
@@ -167,11 +169,8 @@ impl Tape {
     pub fn write(&mut self, at: u64, bytes: &[u8])
         requires within { at ≤ length (tape_bytes self.old) }
         requires room { 64 + length bytes.now ≤ self.old.room }
-        ensures bytes { tape_bytes self.new ≡ put_at at bytes.now (tape_bytes self.old) }
         ensures room { self.new.room ≡ self.old.room - (64 + length bytes.now) }
-        ensures crash { Follows (Torn at (length bytes.now)) (MayLeave self.old) (MayLeave self.new) }
-        ensures time { Elapses (length self.old.steps) (length self.new.steps) (LeftSince self.old) (LeftSince self.new) (MayLeave self.new) }
-        ensures record { Grows self.old self.new (Step.Write at (length bytes.now)) bytes.now }
+        ensures done { TapeWrites at bytes.now self.old self.new }
     {
         let step = Step::Write(at, bytes.len() as u64);
         put(&mut self.bytes, at as usize, bytes);
@@ -182,11 +181,8 @@ impl Tape {
     pub fn cut(&mut self, len: u64)
         requires within { len ≤ length (tape_bytes self.old) }
         requires room { 64 ≤ self.old.room }
-        ensures bytes { tape_bytes self.new ≡ take len (tape_bytes self.old) }
         ensures room { self.new.room ≡ self.old.room - 64 }
-        ensures crash { Follows (Shortened len) (MayLeave self.old) (MayLeave self.new) }
-        ensures time { Elapses (length self.old.steps) (length self.new.steps) (LeftSince self.old) (LeftSince self.new) (MayLeave self.new) }
-        ensures record { Grows self.old self.new (Step.Cut len) [] }
+        ensures done { TapeCuts len self.old self.new }
     {
         self.bytes.truncate(len as usize);
         note(&mut self.steps, &mut self.store, Step::Cut(len), &[]);
@@ -196,12 +192,8 @@ impl Tape {
     /// A hard sync.
     pub fn sync_hard(&mut self)
         requires room { 64 ≤ self.old.room }
-        ensures bytes { tape_bytes self.new ≡ tape_bytes self.old }
         ensures room { self.new.room ≡ self.old.room - 64 }
-        ensures durable { Only (tape_bytes self.old) (MayLeave self.new) }
-        ensures crash { Within (MayLeave self.old) (MayLeave self.new) }
-        ensures time { Elapses (length self.old.steps) (length self.new.steps) (LeftSince self.old) (LeftSince self.new) (MayLeave self.new) }
-        ensures record { Grows self.old self.new Step.Sync [] }
+        ensures done { TapeSyncs self.old self.new }
     {
         note(&mut self.steps, &mut self.store, Step::Sync, &[]);
         self.room -= 64;
@@ -210,11 +202,8 @@ impl Tape {
     /// A soft sync, which leaves all as it was.
     pub fn sync_soft(&mut self)
         requires room { 64 ≤ self.old.room }
-        ensures bytes { tape_bytes self.new ≡ tape_bytes self.old }
         ensures room { self.new.room ≡ self.old.room - 64 }
-        ensures crash { Within (MayLeave self.old) (MayLeave self.new) }
-        ensures time { Elapses (length self.old.steps) (length self.new.steps) (LeftSince self.old) (LeftSince self.new) (MayLeave self.new) }
-        ensures record { Stays self.old self.new }
+        ensures done { TapeRests self.old self.new }
     {
         self.room -= 64;
     }

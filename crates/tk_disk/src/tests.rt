@@ -1,3 +1,6 @@
+ghost use Rattle.std.specs.Prelude.{◌≡◌, ◌≤◌, ◌^◌, length, IfSome, OnOk};
+ghost use Rattle.tk_disk.specs.Past.{settled_on, with_write, with_cut};
+
 use super::*;
 use std::alloc::{AllocError, Global};
 use std::fs;
@@ -38,6 +41,28 @@ fn a_disk_in_memory_reads_and_writes(rt: HostRuntime) -> Result<(), Fail> {
     assert_eq!(rt; disk.len()?, 4);
     assert_eq!(rt; disk.bytes(), b"Jell".as_slice());
     assert_eq!(rt; disk.faults(), 0);
+    Ok(())
+}
+
+/// What a disk is written behind a hard sync, by the calls of the trait.
+fn settle_and_write<D: Disk>(disk: &mut D, bytes: &[u8]) -> Result<(), DiskError>
+    requires { length bytes.now ≤ 2 ^ 40 }
+    ensures past { IfSome (D.image disk.old) (λ f.
+        OnOk result (D.past disk.new ≡ with_cut 0 (with_write 0 bytes.now (settled_on f)))) }
+{
+    disk.sync(true)?;
+    disk.write_at(0, bytes)?;
+    disk.cut(0)
+}
+
+#[test]
+fn a_disk_in_memory_is_a_disk(rt: HostRuntime) -> Result<(), Fail> {
+    let alloc = rt.alloc();
+    let mut disk = disk_of(alloc, b"abcdef", 1000, &[])?;
+    disk.write_at(0, b"XY")?;
+    settle_and_write(&mut disk, b"Z")?;
+    assert_eq!(rt; disk.crash(alloc, 0)?.as_slice(), b"XYcdef".as_slice());
+    assert_eq!(rt; disk.len(), Ok(0));
     Ok(())
 }
 

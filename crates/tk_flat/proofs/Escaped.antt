@@ -6,7 +6,7 @@ use Rattle.std.proofs.lemmas.List.{append-nil}
 use Rattle.std.proofs.lemmas.List.Elements.{recursion_from_All}
 use Rattle.std.proofs.lemmas.Bool.{or_parts, eqb-true, lt-ltb}
 use Rattle.std.proofs.lemmas.Str.{digit_value-digit_char}
-use Rattle.tk_flat.specs.Errors.{Extends}
+use Rattle.tk_model.specs.RecordText.{Extends}
 use Rattle.tk_flat.specs.Escapes.{needs_escape, hex_escape, escape_text, byte_text, escaped, followed, unescaped, after_backslash, first_digit, second_digit}
 
 escaped-plain : (b : ℕ) (rest : List ℕ) → needs_escape b ≡ false → escaped (b ∷ rest) ≡ b ∷ escaped rest

@@ -7,8 +7,10 @@ use Rattle.tk_model.specs.declared.record.Pair.{Pair}
 use Rattle.tk_flat.specs.declared.error.TextError.{TextError}
 use Rattle.tk_flat.specs.declared.error.TextError.TheVariants.{At, NoMemory}
 use Rattle.tk_flat.specs.Errors.{Answers, Names}
-use Rattle.tk_flat.specs.Flat.{IsFlat, IsFlatText, IsFault, no_word, no_record, BeginsWithNone, flat_word, flat_text, lengths_text, record_text}
-use Rattle.tk_flat.proofs.Records.{lengths_of, length-record}
+use Rattle.tk_model.specs.RecordText.{record_text}
+use Rattle.tk_model.proofs.RecordTexts.{record_same}
+use Rattle.tk_flat.specs.Flat.{IsFlat, IsFlatText, IsFault, no_word, no_record, BeginsWithNone, flat_word, flat_text}
+use Rattle.tk_flat.proofs.Records.{flat_fits, shorter}
 
 -- two lists joined, by the length of the first
 split_same : (a b x y : List ℕ) → length a ≡ length b → a ++ x ≡ b ++ y → (a ≡ b) × (x ≡ y)
@@ -17,36 +19,20 @@ split_same a b x y long same = (
   sym (drop_at a x (length a) refl) ∙ ap (λ (l : List ℕ). drop (length a) l) same ∙ drop_at b y (length a) (sym long),
 )
 
-parts_same : (p q : Pair) (x y : List ℕ) → length p.key ≡ length q.key → length p.value ≡ length q.value → record_text p ++ x ≡ record_text q ++ y → (p ≡ q) × (x ≡ y)
-unfolding record_text lengths_text
-parts_same p q x y key value same =
-    let whole = split_same (record_text p) (record_text q) x y (omega (arith, length-record p, length-record q)) same in
-    let body = split_same (lengths_text p) (lengths_text q) (p.key ++ p.value) (q.key ++ q.value) refl whole.0 in
-    let both = split_same p.key q.key p.value q.value key body.1 in
-    (ap (λ (k : List ℕ). record { key = k; value = p.value }) both.0 ∙ ap (λ (v : List ℕ). record { key = q.key; value = v }) both.1, whole.1)
-
--- a record at the front is the only one there
-record_same : (p q : Pair) (x y : List ℕ) → IsFlat p → IsFlat q → record_text p ++ x ≡ record_text q ++ y → (p ≡ q) × (x ≡ y)
-record_same p q x y fp fq same =
-    let text : List ℕ = record_text p ++ x in
-    let a = lengths_of text p x (record { fits = fp; spelled = refl }) in
-    let b = lengths_of text q y (record { fits = fq; spelled = same }) in
-    parts_same p q x y (sym a.0 ∙ b.0) (sym a.1 ∙ b.1) same
-
 -- records, and then what begins with none, are read in one way
 one_way : (ps qs : List Pair) (x y : List ℕ) → AllByRecursion IsFlat ps → AllByRecursion IsFlat qs → BeginsWithNone x → BeginsWithNone y → flat_map record_text ps ++ x ≡ flat_map record_text qs ++ y → (ps ≡ qs) × (x ≡ y)
 one_way [] [] x y fp fq nx ny same = (refl, same)
 one_way [] (q ∷ qs) x y fp fq nx ny same =
-    absurd (nx q (flat_map record_text qs ++ y) (record { fits = fq.0; spelled = same ∙ append_assoc (record_text q) (flat_map record_text qs) y }))
+    absurd (nx q (flat_map record_text qs ++ y) fq.0 (record { fits = flat_fits q fq.0; spelled = same ∙ append_assoc (record_text q) (flat_map record_text qs) y }))
 one_way (p ∷ ps) [] x y fp fq nx ny same =
-    absurd (ny p (flat_map record_text ps ++ x) (record { fits = fp.0; spelled = sym same ∙ append_assoc (record_text p) (flat_map record_text ps) x }))
+    absurd (ny p (flat_map record_text ps ++ x) fp.0 (record { fits = flat_fits p fp.0; spelled = sym same ∙ append_assoc (record_text p) (flat_map record_text ps) x }))
 one_way (p ∷ ps) (q ∷ qs) x y fp fq nx ny same =
-    let first = record_same p q (flat_map record_text ps ++ x) (flat_map record_text qs ++ y) fp.0 fq.0 (sym (append_assoc (record_text p) (flat_map record_text ps) x) ∙ same ∙ append_assoc (record_text q) (flat_map record_text qs) y) in
+    let first = record_same p q (flat_map record_text ps ++ x) (flat_map record_text qs ++ y) (flat_fits p fp.0) (flat_fits q fq.0) (sym (append_assoc (record_text p) (flat_map record_text ps) x) ∙ same ∙ append_assoc (record_text q) (flat_map record_text qs) y) in
     let others = one_way ps qs x y fp.1 fq.1 nx ny first.1 in
     (ap (λ (r : Pair). r ∷ ps) first.0 ∙ ap (λ (rs : List Pair). q ∷ rs) others.0, others.1)
 
 none_in_nothing : BeginsWithNone []
-none_in_nothing pair rest begins = absurd (omega (arith, (lengths_of [] pair rest begins).2))
+none_in_nothing pair rest flat begins = absurd (omega (arith, shorter [] rest pair begins))
 
 texts_same : (ps qs : List Pair) (x y : List ℕ) → All IsFlat ps → All IsFlat qs → BeginsWithNone x → BeginsWithNone y → flat_text ps ++ x ≡ flat_text qs ++ y → (ps ≡ qs) × (x ≡ y)
 unfolding flat_text

@@ -4,5 +4,6 @@ pub mod Judged
 pub mod Lines
 pub mod LinesBack
 pub mod Lists
+pub mod PastLimits
 pub mod Records
 pub mod TsvJudged

@@ -1,5 +1,5 @@
 -- Lines that were written are read back.
-use Rattle.std.proofs.Common.{◌≡◌, ℕ, ◌<◌, ◌≤◌, ◌+◌, Bool, true, false, cond, eqb, nat_lt, nat_le, ◌||◌, List, [], ◌∷◌, ◌++◌, map, Option, Some, None, All, refl, sym, ap, ◌∙◌, lit≤, append_assoc, length, take, get_or, arith}
+use Rattle.std.proofs.Common.{◌≡◌, ℕ, ◌<◌, ◌≤◌, ◌+◌, Bool, true, false, cond, eqb, nat_lt, nat_le, ◌||◌, List, [], ◌∷◌, ◌++◌, map, Option, Some, All, refl, sym, ap, ◌∙◌, lit≤, append_assoc, length, take, get_or, arith}
 use Rattle.std.proofs.lemmas.List.{append-nil, flat_map_more, take_more}
 use Rattle.std.specs.List.{AllByRecursion, flat_map}
 use Rattle.std.specs.Char.{digit_char}
@@ -7,7 +7,7 @@ use Rattle.std.proofs.lemmas.List.Elements.{All-from_recursion, recursion_from_A
 use Rattle.std.proofs.lemmas.Bool.{or_parts, ltb-false, ne_eqb}
 use Rattle.tk_model.specs.declared.record.Pair.{Pair}
 use Rattle.tk_flat.specs.Escapes.{needs_escape, hex_escape, escape_text, byte_text, escaped, unescaped}
-use Rattle.tk_flat.specs.Tsv.{IsSmall, IsReadBack, is_tab, pair_from, pair_in, lines_of, line_body, line_text, tsv_text}
+use Rattle.tk_flat.specs.Tsv.{IsReadBack, is_tab, pair_from, pair_in, lines_of, line_body, line_text, tsv_text}
 use Rattle.tk_flat.proofs.Lines.{fields-two, lines_of-run}
 
 -- no control byte
@@ -55,27 +55,26 @@ no_lf pair =
     join (λ (c : ℕ). eqb c 10 ≡ false) (escaped pair.key) (9 ∷ escaped pair.value) (lacks 10 (omega arith) (escaped pair.key) (printed pair.key)) (refl, lacks 10 (omega arith) (escaped pair.value) (printed pair.value))
 
 pub line-back : (pair : Pair) → unescaped (escaped pair.key) ≡ Some pair.key → unescaped (escaped pair.value) ≡ Some pair.value → IsReadBack pair
-line-back pair key value small =
+line-back pair key value =
     fields-two (line_body pair) (escaped pair.key) (escaped pair.value) refl (no_tab pair.key) (no_tab pair.value)
     ∙ ap (λ (k : Option (List ℕ)). pair_from k (unescaped (escaped pair.value))) key
     ∙ ap (λ (v : Option (List ℕ)). pair_from (Some pair.key) v) value
-    ∙ ap (λ (t : Bool). cond t (Some pair) None) small
 
 tsv_text-cons : (pair : Pair) (pairs : List Pair) → tsv_text (pair ∷ pairs) ≡ line_body pair ++ 10 ∷ tsv_text pairs
 unfolding tsv_text
 tsv_text-cons pair pairs = append_assoc (line_body pair) (10 ∷ []) (flat_map line_text pairs)
 
-lines_back : (pairs : List Pair) → AllByRecursion IsReadBack pairs → AllByRecursion IsSmall pairs → map pair_in (lines_of (tsv_text pairs)) ≡ map Some pairs
+lines_back : (pairs : List Pair) → AllByRecursion IsReadBack pairs → map pair_in (lines_of (tsv_text pairs)) ≡ map Some pairs
 unfolding tsv_text
-lines_back [] back small = refl
-lines_back (p ∷ ps) back small =
+lines_back [] back = refl
+lines_back (p ∷ ps) back =
     ap (λ (l : List ℕ). map pair_in (lines_of l)) (tsv_text-cons p ps)
     ∙ ap (λ (ls : List (List ℕ)). map pair_in ls) (lines_of-run (line_body p) (tsv_text ps) (no_lf p))
-    ∙ ap (λ (o : Option Pair). o ∷ map pair_in (lines_of (tsv_text ps))) (back.0 small.0)
-    ∙ ap (λ (os : List (Option Pair)). Some p ∷ os) (lines_back ps back.1 small.1)
+    ∙ ap (λ (o : Option Pair). o ∷ map pair_in (lines_of (tsv_text ps))) back.0
+    ∙ ap (λ (os : List (Option Pair)). Some p ∷ os) (lines_back ps back.1)
 
-pub tsv_back : (pairs : List Pair) → All IsReadBack pairs → All IsSmall pairs → map pair_in (lines_of (tsv_text pairs)) ≡ map Some pairs
-tsv_back pairs back small = lines_back pairs (recursion_from_All IsReadBack pairs back) (recursion_from_All IsSmall pairs small)
+pub tsv_back : (pairs : List Pair) → All IsReadBack pairs → map pair_in (lines_of (tsv_text pairs)) ≡ map Some pairs
+tsv_back pairs back = lines_back pairs (recursion_from_All IsReadBack pairs back)
 
 pub tsv_text-nil : (out : List ℕ) → out ≡ out ++ tsv_text []
 unfolding tsv_text

@@ -1,7 +1,7 @@
 -- Facts on lists that both texts need.
 use Rattle.std.proofs.Common.{◌≡◌, ℕ, ◌<◌, ◌+◌, List, [], ◌∷◌, ◌++◌, length, get_or, take, drop, sym, ap, ◌∙◌, append_assoc}
 use Rattle.std.proofs.lemmas.List.{append-nil, take-append-drop, drop_more}
-use Rattle.tk_flat.specs.Errors.{Extends}
+use Rattle.tk_model.specs.RecordText.{Extends}
 
 pub Extends_same : (a : List ℕ) → Extends a a
 Extends_same a = ([], sym (append-nil a))

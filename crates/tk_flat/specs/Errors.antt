@@ -1,5 +1,5 @@
 -- What the readers answer.
-use Rattle.std.specs.Prelude.{◌≡◌, ◌⊎◌, ⊤, ℕ, List, ◌++◌, Result, Err}
+use Rattle.std.specs.Prelude.{◌≡◌, ◌⊎◌, ⊤, ℕ, Result, Err}
 use Rattle.tk_flat.specs.declared.error.TextError.{TextError}
 use Rattle.tk_flat.specs.declared.error.TextError.TheVariants.{At, NoMemory}
 
@@ -11,7 +11,3 @@ Names P NoMemory = ⊤
 -- the answer, or want of memory in its place
 abbrev pub Answers : {A : Type 0} → Result A TextError → Result A TextError → Type 0
 Answers wanted result = (result ≡ wanted) ⊎ (result ≡ Err NoMemory)
-
--- the old bytes, and some more
-abbrev pub Extends : (old new : List ℕ) → Type 0
-Extends old new = (more : List ℕ) × (new ≡ old ++ more)

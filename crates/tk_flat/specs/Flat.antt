@@ -1,28 +1,17 @@
 -- Flat text: a word, then the records one after another.
 use Rattle.std.specs.Prelude.{◌≡◌, ◌≢◌, ℕ, ◌≤◌, List, [], ◌∷◌, ◌++◌, length, All}
 use Rattle.std.specs.List.{flat_map}
-use Rattle.std.specs.Int.{w16, w32, to_be_bytes}
 use Rattle.tk_model.specs.declared.record.Pair.{Pair}
+use Rattle.tk_model.specs.RecordText.{record_text, BeginsWith}
 
 -- `TKPFLAT` and LF
 abbrev pub flat_word : List ℕ
 flat_word = 0x54 ∷ 0x4b ∷ 0x50 ∷ 0x46 ∷ 0x4c ∷ 0x41 ∷ 0x54 ∷ 0x0a ∷ []
 
-abbrev pub pair_with : (key value : List ℕ) → Pair
-pair_with key value = record { key = key; value = value }
-
 -- a record that a flat text can hold
 pub record IsFlat (pair : Pair) : Type 0 where
   pub key_fits : length pair.key ≤ 65535
   pub value_fits : length pair.value ≤ 33554431
-
--- the lengths of key and value
-unfoldable pub lengths_text : Pair → List ℕ
-lengths_text pair = to_be_bytes w16 (length pair.key) ++ to_be_bytes w32 (length pair.value)
-
--- the lengths of key and value, the key, and the value
-unfoldable pub record_text : Pair → List ℕ
-record_text pair = lengths_text pair ++ (pair.key ++ pair.value)
 
 unfoldable pub flat_text : List Pair → List ℕ
 flat_text pairs = flat_word ++ flat_map record_text pairs
@@ -32,14 +21,9 @@ pub record IsFlatText (text : List ℕ) (pairs : List Pair) : Type 0 where
   pub fit : All IsFlat pairs
   pub spelled : text ≡ flat_text pairs
 
--- the text begins with this record, and the rest follows
-pub record BeginsWith (text : List ℕ) (pair : Pair) (rest : List ℕ) : Type 0 where
-  pub fits : IsFlat pair
-  pub spelled : text ≡ record_text pair ++ rest
-
--- the text begins with no record
+-- the text begins with no record that a flat text can hold
 abbrev pub BeginsWithNone : List ℕ → Type 0
-BeginsWithNone text = (pair : Pair) (rest : List ℕ) → BeginsWith text pair rest → ⊥
+BeginsWithNone text = (pair : Pair) (rest : List ℕ) → IsFlat pair → BeginsWith text pair rest → ⊥
 
 -- records stand before this place, and bytes that begin with no record from there on
 pub record BreaksAfter (text : List ℕ) (place : ℕ) (pairs : List Pair) (rest : List ℕ) : Type 0 where

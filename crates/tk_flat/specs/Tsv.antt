@@ -1,5 +1,6 @@
 -- Lines of fields: a record is key, TAB, value.
-use Rattle.std.specs.Prelude.{◌≡◌, ℕ, ◌≤◌, ◌-◌, Bool, true, ◌&&◌, ◌==◌, nat_le, if◌then◌else◌, List, [], ◌∷◌, ◌++◌, length, map, position, Option, None, Some, is_none}
+use Rattle.std.specs.Prelude.{◌≡◌, ℕ, ◌+◌, ◌≤◌, ◌-◌, Bool, ◌||◌, ◌==◌, nat_lt, if◌then◌else◌, List, [], ◌∷◌, ◌++◌, length, map, position, Option, None, Some, is_none}
+use Rattle.std.specs.Option.{option_map}
 use Rattle.std.specs.List.{flat_map, slice_split, onto_first}
 use Rattle.tk_model.specs.declared.record.Pair.{Pair}
 use Rattle.tk_flat.specs.Escapes.{escaped, unescaped}
@@ -19,17 +20,10 @@ lines_of (b ∷ bs) = if is_lf b then [] ∷ lines_of bs else onto_first b (line
 abbrev pub fields_of : List ℕ → List (List ℕ)
 fields_of line = slice_split is_tab line
 
--- the longest key, and the longest value that a call stores
-abbrev pub is_small : (key value : List ℕ) → Bool
-is_small key value = nat_le (length key) 65535 && nat_le (length value) 16777215
-
-abbrev pub IsSmall : Pair → Type 0
-IsSmall pair = is_small pair.key pair.value ≡ true
-
 abbrev pub pair_from : Option (List ℕ) → Option (List ℕ) → Option Pair
 pair_from None value = None
 pair_from (Some key) None = None
-pair_from (Some key) (Some value) = if is_small key value then Some (record { key = key; value = value }) else None
+pair_from (Some key) (Some value) = Some (record { key = key; value = value })
 
 abbrev pub pair_of : List (List ℕ) → Option Pair
 pair_of [] = None
@@ -50,6 +44,14 @@ pub record IsFirstBadLine (text : List ℕ) (line : ℕ) : Type 0 where
   pub counted : 1 ≤ line
   pub first : position (λ l. is_none (pair_in l)) (lines_of text) ≡ Some (line - 1)
 
+-- the key or the value is longer than a call stores
+abbrev pub is_past_limits : Pair → Bool
+is_past_limits pair = nat_lt 65535 (length pair.key) || nat_lt 16777215 (length pair.value)
+
+-- the line of the first such record, counted from 1
+abbrev pub first_past_limits : List Pair → Option ℕ
+first_past_limits pairs = option_map (λ i. i + 1) (position is_past_limits pairs)
+
 -- a record as a line without its LF
 abbrev pub line_body : Pair → List ℕ
 line_body pair = escaped pair.key ++ (0x09 ∷ escaped pair.value)
@@ -62,4 +64,4 @@ tsv_text pairs = flat_map line_text pairs
 
 -- a record whose line is read as this record
 abbrev pub IsReadBack : Pair → Type 0
-IsReadBack pair = IsSmall pair → pair_in (line_body pair) ≡ Some pair
+IsReadBack pair = pair_in (line_body pair) ≡ Some pair

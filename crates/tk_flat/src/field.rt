@@ -1,7 +1,7 @@
 ghost use Rattle.std.specs.Prelude.{◌≡◌, ◌<◌, ◌≤◌, ◌++◌, ◌∷◌, [], true, false, All, length, slice_index, take, IfSome, IfNone, IfOk, OnOk, OnErr, None, Some};
 ghost use Rattle.std.specs.Option.{SomeIff};
 ghost use Rattle.std.specs.Char.{digit_char, digit_value};
-ghost use Rattle.tk_flat.specs.Errors.{Extends};
+ghost use Rattle.tk_model.specs.RecordText.{Extends};
 ghost use Rattle.tk_flat.specs.Escapes.{needs_escape, escape_text, hex_escape, escaped, followed, unescaped, after_backslash, first_digit};
 
 use crate::search::cut;
@@ -12,11 +12,7 @@ fn digit(value: u8) -> u8
     requires { value < 16 }
     ensures { result ≡ digit_char value }
 {
-    if value < 10 {
-        b'0' + value
-    } else {
-        b'a' + (value - 10)
-    }
+    char::from_digit(u32::from(value), 16).unwrap() as u8
 }
 
 fn hex_escape(byte: u8) -> [u8; 4]
@@ -93,12 +89,8 @@ pub fn escape(bytes: &[u8], out: &mut Bytes) -> Result<(), NoMemory>
 fn hex_value(digit: u8) -> Option<u8>
     ensures { SomeIff result (digit_value digit < 16) (digit_value digit) }
 {
-    match digit {
-        b'0'..=b'9' => Some(digit - b'0'),
-        b'A'..=b'F' => Some(digit - b'A' + 10),
-        b'a'..=b'f' => Some(digit - b'a' + 10),
-        _ => None,
-    }
+    let value = char::from(digit).to_digit(16)?;
+    Some(value as u8)
 }
 
 /// The byte of two digits, and the rest.

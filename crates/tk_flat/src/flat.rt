@@ -1,41 +1,28 @@
 ghost use Rattle.std.specs.Prelude.{◌≡◌, ◌≢◌, ◌+◌, ◌<◌, ◌++◌, ℕ, List, All, true, false, Ok, Err, drop, length, IfErr, IfOk, IfNone, IfSome, OnOk, OnErr};
 ghost use Rattle.tk_model.specs.declared.record.Pair.{Pair};
-ghost use Rattle.tk_flat.specs.Errors.{Answers, Extends, Names};
-ghost use Rattle.tk_flat.specs.Flat.{BeginsWith, BeginsWithNone, IsFault, IsFlat, IsFlatText, flat_text, flat_word, lengths_text, pair_with, record_text};
+ghost use Rattle.tk_model.specs.RecordText.{BeginsWith, Extends, pair_here};
+ghost use Rattle.tk_flat.specs.Errors.{Answers, Names};
+ghost use Rattle.tk_flat.specs.Flat.{BeginsWithNone, IsFault, IsFlat, IsFlatText, flat_text, flat_word};
 
 use crate::TextError;
 use std::alloc::Global;
-use tk_model::{Bytes, NoMemory, Pair, PairList};
+use tk_model::{Bytes, NoMemory, Pair, PairList, RecordHere, record_here, write_record};
 
 const WORD: [u8; 8] = *b"TKPFLAT\n";
 
 const MAX_VALUE: usize = 33_554_431;
 
-/// A record that lies in a flat text.
-#[derive(Clone, Copy, Debug)]
-pub struct FlatRecord<'a> {
-    pub key: &'a [u8],
-    pub value: &'a [u8],
-}
-
-/// The record at the front.
-pub fn record_at(bytes: &[u8]) -> Option<FlatRecord<'_>>
-    ensures found { IfSome result (λ r. BeginsWith bytes.now (pair_with r.key.now r.value.now) (drop (6 + (length r.key.now + length r.value.now)) bytes.now)) }
+/// The record at the front; none where none stands there that a flat text can hold.
+pub fn flat_record(bytes: &[u8]) -> Option<RecordHere<'_>>
+    ensures fits { IfSome result (λ r. IsFlat (pair_here r)) }
+    ensures found { IfSome result (λ r. BeginsWith bytes.now (pair_here r) r.rest.now) }
     ensures none { IfNone result (BeginsWithNone bytes.now) }
 {
-    let [k0, k1, v0, v1, v2, v3, rest @ ..] = bytes else {
-        return None;
-    };
-    let key = usize::from(u16::from_be_bytes([*k0, *k1]));
-    let value = u32::from_be_bytes([*v0, *v1, *v2, *v3]) as usize;
-    if value > MAX_VALUE || rest.len() < key + value {
+    let here = record_here(bytes)?;
+    if here.value.len() > MAX_VALUE {
         return None;
     }
-    let (key, behind) = rest.split_at(key);
-    Some(FlatRecord {
-        key,
-        value: &behind[..value],
-    })
+    Some(here)
 }
 
 fn has_word(bytes: &[u8]) -> bool
@@ -53,15 +40,15 @@ fn read_records(alloc: Global, bytes: &[u8]) -> Result<PairList, TextError>
         return Err(TextError::At(0));
     }
     let mut pairs = PairList::new(alloc);
-    let mut place = WORD.len();
-    while place < bytes.len() {
-        let Some(found) = record_at(&bytes[place..]) else {
-            return Err(TextError::At(place as u64));
+    let mut rest = &bytes[WORD.len()..];
+    while !rest.is_empty() {
+        let Some(here) = flat_record(rest) else {
+            return Err(TextError::At((bytes.len() - rest.len()) as u64));
         };
-        let key = Bytes::from_slice(alloc, found.key)?;
-        let value = Bytes::from_slice(alloc, found.value)?;
+        let key = Bytes::from_slice(alloc, here.key)?;
+        let value = Bytes::from_slice(alloc, here.value)?;
         pairs.push(Pair { key, value })?;
-        place += 6 + (found.key.len() + found.value.len());
+        rest = here.rest;
     }
     Ok(pairs)
 }
@@ -75,28 +62,6 @@ pub fn read_flat(alloc: Global, bytes: &[u8]) -> Result<PairList, TextError>
     ensures refused { (place : ℕ) → IsFault bytes.now place → Answers (Err (TextError.At place)) result }
 {
     read_records(alloc, bytes)
-}
-
-#[tactic(auto, unfolding(crate::specs::Flat::lengths_text))]
-fn lengths_text(key: &[u8], value: &[u8]) -> [u8; 6]
-    requires { IsFlat (pair_with key.now value.now) }
-    ensures { result ≡ lengths_text (pair_with key.now value.now) }
-{
-    let k = (key.len() as u16).to_be_bytes();
-    let v = (value.len() as u32).to_be_bytes();
-    [k[0], k[1], v[0], v[1], v[2], v[3]]
-}
-
-/// Puts a record at the end.
-#[tactic(auto, using(crate::proofs::Lists::Extends_same, crate::proofs::Lists::Extends_by), unfolding(crate::specs::Flat::record_text))]
-pub fn write_record(key: &[u8], value: &[u8], out: &mut Bytes) -> Result<(), NoMemory>
-    requires { IsFlat (pair_with key.now value.now) }
-    ensures ok { OnOk result (out.new ≡ out.old ++ record_text (pair_with key.now value.now)) }
-    ensures err { OnErr result (Extends out.old out.new) }
-{
-    out.extend(&lengths_text(key, value))?;
-    out.extend(key)?;
-    out.extend(value)
 }
 
 /// Puts the flat text of records at the end.

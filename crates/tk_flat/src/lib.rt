@@ -9,8 +9,8 @@ mod tsv;
 
 pub use error::TextError;
 pub use field::{escape, unescape};
-pub use flat::{FlatRecord, read_flat, record_at, write_flat, write_record};
-pub use tsv::{next_line, read_tsv, write_line, write_tsv};
+pub use flat::{flat_record, read_flat, write_flat};
+pub use tsv::{first_line_past_limits, next_line, read_tsv, write_line, write_tsv};
 
 #[cfg(test)]
 mod tests;

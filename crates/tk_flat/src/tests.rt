@@ -121,14 +121,19 @@ fn all_bytes_there_and_back(rt: HostRuntime) -> Result<(), Fail> {
 }
 
 #[test]
-fn limits_of_a_line(rt: HostRuntime) -> Result<(), Fail> {
+fn lines_have_no_limits(rt: HostRuntime) -> Result<(), Fail> {
     let mut text = Bytes::from_slice(rt.alloc(), b"a\tb\n")?;
     text.extend_zeros(65_535)?;
     text.extend(b"\tv\n")?;
-    assert_eq!(rt; read_tsv(rt.alloc(), text.as_slice())?.len(), 2);
+    let within = read_tsv(rt.alloc(), text.as_slice())?;
+    assert_eq!(rt; within.len(), 2);
+    assert!(rt; first_line_past_limits(&within).is_none());
     text.extend_zeros(65_536)?;
-    text.extend(b"\tv\n")?;
-    assert_eq!(rt; refused_at(&rt, text.as_slice()), 3);
+    text.extend(b"\tv\nk\t")?;
+    text.extend_zeros(16_777_216)?;
+    let past = read_tsv(rt.alloc(), text.as_slice())?;
+    assert_eq!(rt; past.len(), 4);
+    assert_eq!(rt; first_line_past_limits(&past), Some(3));
     Ok(())
 }
 
@@ -174,9 +179,10 @@ fn flat_text_cut_and_broken(rt: HostRuntime) -> Result<(), Fail> {
 #[test]
 fn one_record_and_one_line(rt: HostRuntime) -> Result<(), Fail> {
     let text = FLAT.as_slice();
-    let found = record_at(&text[8..]).ok_or("refused")?;
+    let found = flat_record(&text[8..]).ok_or("refused")?;
     assert_eq!(rt; found.key, &b"a"[..]);
     assert_eq!(rt; found.value, &b"12"[..]);
+    assert_eq!(rt; found.rest, &text[17..]);
     let (line, behind) = next_line(b"ab\ncd");
     assert_eq!(rt; line, &b"ab"[..]);
     assert_eq!(rt; behind, &b"cd"[..]);

@@ -1,8 +1,8 @@
-ghost use Rattle.std.specs.Prelude.{◌≡◌, ◌≢◌, ◌<◌, ◌⊎◌, ◌++◌, ◌∷◌, [], ℕ, List, All, length, map, Ok, Err, IfErr, IfOk, OnOk, OnErr, Some};
+ghost use Rattle.std.specs.Prelude.{◌≡◌, ◌≢◌, ◌<◌, ◌⊎◌, ◌++◌, ◌∷◌, [], ℕ, List, length, map, Ok, Err, IfErr, IfOk, OnOk, OnErr, Some};
 ghost use Rattle.tk_model.specs.declared.record.Pair.{Pair};
-ghost use Rattle.tk_flat.specs.Errors.{Answers, Extends, Names};
-ghost use Rattle.tk_flat.specs.Flat.{pair_with};
-ghost use Rattle.tk_flat.specs.Tsv.{IsFirstBadLine, IsReadBack, IsSmall, IsTsv, line_text, lines_of, pair_from, pair_in, tsv_text};
+ghost use Rattle.tk_model.specs.RecordText.{Extends, pair_with};
+ghost use Rattle.tk_flat.specs.Errors.{Answers, Names};
+ghost use Rattle.tk_flat.specs.Tsv.{IsFirstBadLine, IsReadBack, IsTsv, first_past_limits, is_past_limits, line_text, lines_of, pair_from, pair_in, tsv_text};
 
 use crate::TextError;
 use crate::field::{escape, unescape};
@@ -28,16 +28,12 @@ pub fn next_line(bytes: &[u8]) -> (&[u8], &[u8])
     }
 }
 
-fn small_pair(key: Option<Bytes>, value: Option<Bytes>) -> Option<Pair>
+fn pair_from(key: Option<Bytes>, value: Option<Bytes>) -> Option<Pair>
     ensures { result ≡ pair_from key value }
 {
     let key = key?;
     let value = value?;
-    if key.len() <= MAX_KEY && value.len() <= MAX_VALUE {
-        Some(Pair { key, value })
-    } else {
-        None
-    }
+    Some(Pair { key, value })
 }
 
 #[tactic(auto, using(crate::proofs::Lines::fields_read))]
@@ -52,7 +48,7 @@ fn read_line(alloc: Global, line: &[u8]) -> Result<Option<Pair>, NoMemory>
     };
     let key = unescape(alloc, key)?;
     let value = unescape(alloc, value)?;
-    Ok(small_pair(key, value))
+    Ok(pair_from(key, value))
 }
 
 fn read_lines(alloc: Global, bytes: &[u8]) -> Result<PairList, TextError>
@@ -83,6 +79,25 @@ pub fn read_tsv(alloc: Global, bytes: &[u8]) -> Result<PairList, TextError>
     read_lines(alloc, bytes)
 }
 
+fn is_past_limits(pair: &Pair) -> bool
+    ensures { result ≡ is_past_limits pair.now }
+{
+    pair.key.len() > MAX_KEY || pair.value.len() > MAX_VALUE
+}
+
+/// The first line whose record has a longer key or value than a call stores, where the lines are these records.
+#[tactic(auto, using(crate::proofs::PastLimits::search_steps))]
+pub fn first_line_past_limits(pairs: &PairList) -> Option<u64>
+    ensures { result ≡ first_past_limits pairs.now }
+{
+    for (at, pair) in pairs.as_slice().iter().enumerate() {
+        if is_past_limits(pair) {
+            return Some(at as u64 + 1);
+        }
+    }
+    None
+}
+
 /// Puts a record at the end as a line.
 #[tactic(auto, using(crate::proofs::Lists::Extends_then, crate::proofs::Lists::Extends_by, crate::proofs::Lists::Extends_same))]
 pub fn write_line(key: &[u8], value: &[u8], out: &mut Bytes) -> Result<(), NoMemory>
@@ -102,7 +117,7 @@ pub fn write_line(key: &[u8], value: &[u8], out: &mut Bytes) -> Result<(), NoMem
 pub fn write_tsv(pairs: &PairList, out: &mut Bytes) -> Result<(), NoMemory>
     ensures ok { OnOk result (out.new ≡ out.old ++ tsv_text pairs.now) }
     ensures err { OnErr result (Extends out.old out.new) }
-    ensures back { OnOk result (All IsSmall pairs.now → IsTsv (tsv_text pairs.now) pairs.now) }
+    ensures back { OnOk result (IsTsv (tsv_text pairs.now) pairs.now) }
 {
     for pair in pairs.as_slice() {
         write_line(pair.key.as_slice(), pair.value.as_slice(), out)?;

@@ -100,16 +100,21 @@ file_parts h f groups is =
       omega (arith, ap length parted, length-append (front ++ heads) rest, long, length-texts (base_of h.p) (bodies_of groups) (links_of h.p [] (blocks_of h groups))),
     )
 
--- the chain of a bucket is linked from its head
+-- the chain of a bucket is linked from its newest block
+pub newest_chained : (h : StaticHead) (f : List ℕ) (groups : List Group) (bucket : ℕ) → IsFile h f groups → IsChained f (newest h.p bucket 0 (blocks_of h groups)) (chain_of h bucket groups)
+newest_chained h f groups bucket is =
+    let parts = file_parts h f groups is in
+    let end : end_of (base_of h.p) (bodies_of groups) < 2 ^ 64 = omega (arith, is.size, parts.1) in
+    chained_on h.p bucket f [] (bodies_of groups) (base_of h.p) [] (groups_fit 0 groups is.legal) end parts.0 (omega arith) refl
+
+-- which is its head
 pub file_chained : (h : StaticHead) (f : List ℕ) (groups : List Group) (bucket : ℕ) → bucket < 2 ^ h.p → IsFile h f groups → IsChained f (u64_in f (64 + 8 * bucket)) (chain_of h bucket groups)
 file_chained h f groups bucket below is =
     let parts = file_parts h f groups is in
     let front = static_text h ++ closing_text is.closing in
-    let bodies = bodies_of groups in
-    let base = base_of h.p in
-    let end : end_of base bodies < 2 ^ 64 = omega (arith, is.size, parts.1) in
-    let small : newest h.p bucket 0 (blocks_of h groups) < 2 ^ 64 = newest_laid h.p bucket 0 base (2 ^ 64) bodies (omega arith) (omega (arith, end)) in
+    let end : end_of (base_of h.p) (bodies_of groups) < 2 ^ 64 = omega (arith, is.size, parts.1) in
+    let small : newest h.p bucket 0 (blocks_of h groups) < 2 ^ 64 = newest_laid h.p bucket 0 (base_of h.p) (2 ^ 64) (bodies_of groups) (omega arith) (omega (arith, end)) in
     let long : length front ≡ 64 = omega (arith, length-append (static_text h) (closing_text is.closing), length-static_text h, length-closing_text is.closing) in
     let head : u64_in f (64 + 8 * bucket) ≡ newest h.p bucket 0 (blocks_of h groups) =
     ap (λ (l : List ℕ). u64_in l (64 + 8 * bucket)) is.text ∙ head_read h.p bucket (blocks_of h groups) front (groups_text h groups) long below small in
-    subst (λ (k : ℕ). IsChained f k (chain_of h bucket groups)) (sym head) (chained_on h.p bucket f [] bodies base [] (groups_fit 0 groups is.legal) end parts.0 (omega arith) refl)
+    subst (λ (k : ℕ). IsChained f k (chain_of h bucket groups)) (sym head) (newest_chained h f groups bucket is)

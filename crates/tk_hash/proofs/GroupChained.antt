@@ -1,7 +1,7 @@
 -- The blocks of a group in the chains of a file, one more.
 use Rattle.std.proofs.Common.{◌≡◌, ℕ, zero, suc, ◌+◌, ◌-◌, ◌*◌, ◌<◌, ◌≤◌, ◌^◌, Bool, cond, List, [], ◌∷◌, ◌++◌, length, get_or, take, drop, replicate, true, false, Some, refl, sym, ◌∙◌, ap, subst, inl, inr, arith, length-append, get_or-set_same, get_or-set_other}
 use Rattle.std.proofs.lemmas.Grind.{common_steps}
-use Rattle.std.specs.Prelude.{Option, ◌==◌, if◌then◌else◌}
+use Rattle.std.specs.Prelude.{Option, slice_index, ◌==◌, if◌then◌else◌}
 use Rattle.std.specs.Option.{unwrap_or}
 use Rattle.std.specs.Ordering.{nat_cmp}
 use Rattle.std.specs.BTreeMap.{BTreeMap, get, is_at, Updates}
@@ -81,51 +81,6 @@ pub length-with_new : (ns : List NewHead) (heads : List ℕ) → length (with_ne
 length-with_new [] heads = refl
 length-with_new (n ∷ ns) heads = length-with_new ns (set heads n.bucket n.place) ∙ length-set heads n.bucket n.place
 
--- the file is long enough, and the head of each bucket stands in it
-pub record HasHeads (p : ℕ) (f : List ℕ) (blocks : List Placed) : Type 0 where
-  pub long : 64 + 8 * 2 ^ p ≤ length f
-  pub stands : (b : ℕ) → b < 2 ^ p → u64_in f (64 + 8 * b) ≡ newest p b 0 blocks
-
-pub file_heads : (h : StaticHead) (f : List ℕ) (groups : List Group) → IsFile h f groups → HasHeads h.p f (blocks_of h groups)
-file_heads h f groups is =
-    let front : List ℕ = static_text h ++ closing_text is.closing in
-    let blocks : List Placed = blocks_of h groups in
-    let heads : List ℕ = heads_text h.p blocks in
-    let rest : List ℕ = groups_text h groups in
-    let front_long : length front ≡ 64 = omega (arith, length-append (static_text h) (closing_text is.closing), length-static_text h, length-closing_text is.closing) in
-    let all : length f ≡ 64 + 8 * 2 ^ h.p + length rest =
-    ap (λ (l : List ℕ). length l) is.text ∙ omega (arith, front_long, length-append front (heads ++ rest), length-append heads rest, length-heads_text h.p blocks) in
-    let ends : base_of h.p + length rest ≡ end_of (base_of h.p) (bodies_of groups) = length-texts (base_of h.p) (bodies_of groups) (links_of h.p [] blocks) in
-    record {
-      long = omega (arith, all);
-      stands = λ b below.
-          ap (λ (l : List ℕ). u64_in l (64 + 8 * b)) is.text
-          ∙ head_read h.p b blocks front rest front_long below (newest_laid h.p b 0 (base_of h.p) (2 ^ 64) (bodies_of groups) (omega arith) (omega (arith, all, ends, is.size)));
-    }
-
--- heads of all buckets
-abbrev heads_from : (p b n : ℕ) → List Placed → List ℕ
-heads_from p b zero blocks = []
-heads_from p b (suc n) blocks = newest p b 0 blocks ∷ heads_from p (b + 1) n blocks
-
-length-heads_from : (p b n : ℕ) (blocks : List Placed) → length (heads_from p b n blocks) ≡ n
-length-heads_from p b zero blocks = refl
-length-heads_from p b (suc n) blocks = ap suc (length-heads_from p (b + 1) n blocks)
-
-head_from : (p b n k : ℕ) (blocks : List Placed) → k < n → get_or (heads_from p b n blocks) k 0 ≡ newest p (b + k) 0 blocks
-head_from p b zero k blocks below = absurd (omega arith)
-head_from p b (suc n) zero blocks below = ap (λ (i : ℕ). newest p i 0 blocks) {x = b} {y = b + 0} (omega arith)
-head_from p b (suc n) (suc k) blocks below = head_from p (b + 1) n k blocks (omega arith) ∙ ap (λ (i : ℕ). newest p i 0 blocks) {x = b + 1 + k} {y = b + suc k} (omega arith)
-
-pub heads_there : (p : ℕ) (blocks : List Placed) → (heads : List ℕ) × HeadsAre p heads blocks
-heads_there p blocks = (
-  heads_from p 0 (2 ^ p) blocks,
-  record {
-    whole = length-heads_from p 0 (2 ^ p) blocks;
-    newest_each = λ b below. head_from p 0 (2 ^ p) b blocks below ∙ ap (λ (i : ℕ). newest p i 0 blocks) {x = 0 + b} {y = b} (omega arith);
-  },
-)
-
 -- a change that is no clear has its key
 pub has_its_key : (c : Change) (rest : List Change) (number : ℕ) (last : Bool) → HasNoClear (c ∷ rest) → HasKey (key_of c) (body_of number c last)
 has_its_key (changes.Put pair) rest number last none = steps.has_put pair.key (changes.Put pair) pair number last refl refl
@@ -138,17 +93,16 @@ no_clear_rest (changes.Drop key) rest none = none
 no_clear_rest changes.Clear rest none = absurd none
 
 -- one change more
-pub chained_more : (p : ℕ) (ns : List NewHead) (heads links : List ℕ) (place e : ℕ) (key : List ℕ) (c : Change) (rest cs : List Change) (end number : ℕ) (before : List Placed) (f : List ℕ)
-    → key ≡ key_of c → HasNoClear (c ∷ rest) → bucket_in p key < 2 ^ p → e ≡ extent_of (body_of number c (is_nil rest)) → HasHeads p f before → HeadsAre p heads before
+pub chained_more : (p : ℕ) (ns : List NewHead) (heads links : List ℕ) (place e : ℕ) (key : List ℕ) (c : Change) (rest cs : List Change) (end number : ℕ) (before : List Placed)
+    → key ≡ key_of c → HasNoClear (c ∷ rest) → bucket_in p key < 2 ^ p → e ≡ extent_of (body_of number c (is_nil rest)) → length heads ≡ 2 ^ p
     → Ahead p (with_new ns heads) links place (c ∷ rest) cs end number before
-    → Ahead p (with_new (ns ++ record { bucket = bucket_in p key; place = place } ∷ []) heads) (links ++ placed_in ns (bucket_in p key) (u64_in f (64 + 8 * bucket_in p key)) ∷ []) (place + e) rest cs end number before
-chained_more p ns heads links place e key c rest cs end number before f same none below long has are a =
+    → Ahead p (with_new (ns ++ record { bucket = bucket_in p key; place = place } ∷ []) heads) (links ++ placed_in ns (bucket_in p key) (slice_index heads (bucket_in p key)) ∷ []) (place + e) rest cs end number before
+chained_more p ns heads links place e key c rest cs end number before same none below long whole a =
     let b = bucket_in p key in
     let n : NewHead = record { bucket = b; place = place } in
     let body : Body = body_of number c (is_nil rest) in
     let its : HasKey key body = subst (λ (k : List ℕ). HasKey k body) (sym same) (has_its_key c rest number (is_nil rest) none) in
-    let linked : placed_in ns b (u64_in f (64 + 8 * b)) ≡ get_or (with_new ns heads) b 0 =
-    ap (λ (k : ℕ). placed_in ns b k) (has.stands b below ∙ sym (are.newest_each b below)) ∙ sym (head_behind ns heads b (omega (arith, below, are.whole))) in
+    let linked : placed_in ns b (slice_index heads b) ≡ get_or (with_new ns heads) b 0 = sym (head_behind ns heads b (omega (arith, below, whole))) in
     ahead_more p (with_new ns heads) (with_new (ns ++ n ∷ []) heads) links place e _ c rest cs end number before long
     (λ l h. subst (λ (m : List ℕ). HeadsAre p m (l ++ record { place = place; body = body } ∷ [])) (sym (with_more ns n heads)) (steps.heads_more p b place key body (with_new ns heads) l its refl below h))
     (λ l h. linked ∙ steps.link_is p b key body (with_new ns heads) l its refl below h)

@@ -28,31 +28,6 @@ use Rattle.tk_hash.specs.Plan.{with_heads}
 use Rattle.tk_hash.specs.HashLaws.{length-front}
 use Rattle.tk_hash.specs.declared.plan.NewHeads.{NewHeads}
 
--- the newest block of each of the first n buckets
-abbrev newest_below : (p n : ℕ) → List Placed → List ℕ
-newest_below p zero blocks = []
-newest_below p (suc n) blocks = newest_below p n blocks ++ newest p n 0 blocks ∷ []
-
-length-newest_below : (p n : ℕ) (blocks : List Placed) → length (newest_below p n blocks) ≡ n
-length-newest_below p zero blocks = refl
-length-newest_below p (suc n) blocks = omega (arith, length-append (newest_below p n blocks) (newest p n 0 blocks ∷ []), length-newest_below p n blocks)
-
-newest_at : (p n b : ℕ) (blocks : List Placed) → b < n → get_or (newest_below p n blocks) b 0 ≡ newest p b 0 blocks
-newest_at p zero b blocks below = absurd (omega (arith, below))
-newest_at p (suc n) b blocks below =
-    let front = newest_below p n blocks in
-    let long : length front ≡ n = length-newest_below p n blocks in
-    elim (cases_lt b n) [
-      | inl less ↦ get_or-append front (newest p n 0 blocks ∷ []) 0 b (omega (arith, less, long)) ∙ newest_at p n b blocks less
-      | inr more ↦
-          let is : b ≡ n = omega (arith, below, more) in
-          ap (λ (i : ℕ). get_or (front ++ newest p n 0 blocks ∷ []) i 0) (is ∙ sym long) ∙ get_or-append_seam front (newest p n 0 blocks) [] 0 ∙ ap (λ (i : ℕ). newest p i 0 blocks) (sym is)
-    ]
-
--- the heads of all buckets, as numbers
-pub heads_of : (p : ℕ) (blocks : List Placed) → (heads : List ℕ) × HeadsAre p heads blocks
-heads_of p blocks = (newest_below p (2 ^ p) blocks, record { whole = length-newest_below p (2 ^ p) blocks; newest_each = λ b below. newest_at p (2 ^ p) b blocks below })
-
 -- a file, by its heads as numbers
 with_is_of : (h : StaticHead) (c : Closing) (heads : List ℕ) (groups : List Group) → HeadsAre h.p heads (blocks_of h groups) → text_with h c heads groups ≡ text_of h c groups
 with_is_of h c heads groups are = ap (λ (l : List ℕ). (static_text h ++ closing_text c) ++ (l ++ groups_text h groups)) (words_text-heads h.p heads (blocks_of h groups) are)
@@ -108,22 +83,26 @@ abbrev pub PutsHeads : (mid new : Option (List ℕ)) → StaticHead → NewHeads
 PutsHeads mid new h fresh =
     (c : Closing) (old : List ℕ) (groups : List Group) → IfSome mid (λ f. f ≡ text_with h c old groups → length old ≡ 2 ^ h.p → new ≡ Some (text_with h c (with_heads fresh old) groups))
 
+-- the heads of the file with one group more
+pub heads_behind : (h : StaticHead) (groups : List Group) (g : Group) (end : ℕ) (heads : List ℕ) → end ≡ end_of (base_of h.p) (bodies_of groups) → HeadsAre h.p heads (blocks_of h groups ++ laid end (group_bodies g.number g.changes))
+    → HeadsAre h.p heads (blocks_of h (groups ++ g ∷ []))
+heads_behind h groups g end heads is are = subst (λ (l : List Placed). HeadsAre h.p heads l) (sym (blocks_more h groups g end is)) are
+
 -- the file with one group more
-pub file_more : (o mid new : Option (List ℕ)) (h : StaticHead) (c : Closing) (groups : List Group) (g : Group) (end : ℕ) (links : List ℕ) (fresh : NewHeads) → end ≡ end_of (base_of h.p) (bodies_of groups) → is_some new ≡ is_some o
+pub file_more : (o mid new : Option (List ℕ)) (h : StaticHead) (c : Closing) (groups : List Group) (g : Group) (end : ℕ) (links heads : List ℕ) (fresh : NewHeads) → end ≡ end_of (base_of h.p) (bodies_of groups) → is_some new ≡ is_some o
     → mid ≡ option_map (λ f. f ++ group_text g end links) o → IfSome o (λ f. IsFile h f groups) → IfSome o (λ f. f ≡ text_of h c groups)
     → IfSome o (λ f. IsFile h f groups → links ≡ links_of h.p (blocks_of h groups) (laid end (group_bodies g.number g.changes)))
-    → ((heads : List ℕ) → IfSome o (λ f. IsFile h f groups → HeadsAre h.p heads (blocks_of h groups) → HeadsAre h.p (with_heads fresh heads) (blocks_of h groups ++ laid end (group_bodies g.number g.changes))))
+    → IfSome o (λ f. HeadsAre h.p heads (blocks_of h groups)) → IfSome o (λ f. IsFile h f groups → HeadsAre h.p (with_heads fresh heads) (blocks_of h groups ++ laid end (group_bodies g.number g.changes)))
     → PutsHeads mid new h fresh → IfSome new (λ f. f ≡ text_of h c (groups ++ g ∷ []))
-file_more None mid None h c groups g end links fresh is told first file there linked heads puts = tt
-file_more None mid (Some x) h c groups g end links fresh is told first file there linked heads puts = absurd (cc)
-file_more (Some f) mid new h c groups g end links fresh is told first file there linked heads puts =
+file_more None mid None h c groups g end links heads fresh is told first file there linked old new puts = tt
+file_more None mid (Some x) h c groups g end links heads fresh is told first file there linked old new puts = absurd (cc)
+file_more (Some f) mid new h c groups g end links heads fresh is told first file there linked old renewed puts =
     let all = groups ++ g ∷ [] in
-    let old = heads_of h.p (blocks_of h groups) in
-    let are : HeadsAre h.p (with_heads fresh old.0) (blocks_of h all) = subst (λ (l : List Placed). HeadsAre h.p (with_heads fresh old.0) l) (sym (blocks_more h groups g end is)) (heads old.0 file old.1) in
-    let here : mid ≡ Some (text_with h c old.0 all) = first ∙ ap Some (ap (λ (l : List ℕ). l ++ group_text g end links) there ∙ appended h c groups g end links old.0 is (linked file) old.1) in
-    let put : new ≡ Some (text_with h c (with_heads fresh old.0) all) =
-    subst (λ (m : Option (List ℕ)). IfSome m (λ f. f ≡ text_with h c old.0 all → length old.0 ≡ 2 ^ h.p → new ≡ Some (text_with h c (with_heads fresh old.0) all))) here (puts c old.0 all) refl old.1.whole in
-    subst (λ (m : Option (List ℕ)). IfSome m (λ f. f ≡ text_of h c all)) (sym put) (with_is_of h c (with_heads fresh old.0) all are)
+    let are : HeadsAre h.p (with_heads fresh heads) (blocks_of h all) = heads_behind h groups g end (with_heads fresh heads) is (renewed file) in
+    let here : mid ≡ Some (text_with h c heads all) = first ∙ ap Some (ap (λ (l : List ℕ). l ++ group_text g end links) there ∙ appended h c groups g end links heads is (linked file) old) in
+    let put : new ≡ Some (text_with h c (with_heads fresh heads) all) =
+    subst (λ (m : Option (List ℕ)). IfSome m (λ f. f ≡ text_with h c heads all → length heads ≡ 2 ^ h.p → new ≡ Some (text_with h c (with_heads fresh heads) all))) here (puts c heads all) refl old.whole in
+    subst (λ (m : Option (List ℕ)). IfSome m (λ f. f ≡ text_of h c all)) (sym put) (with_is_of h c (with_heads fresh heads) all are)
 
 -- the file with another closing part
 pub closed_there : (o new : Option (List ℕ)) (h : StaticHead) (c next : Closing) (groups : List Group) → IfSome o (λ f. f ≡ text_of h c groups) → new ≡ option_map (with_closing next) o → IfSome new (λ f. f ≡ text_of h next groups)

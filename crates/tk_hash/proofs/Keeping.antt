@@ -1,6 +1,7 @@
 -- What calls of a disk keep of the groups in its images.
 use Rattle.std.proofs.Common.{◌≡◌, ◌⊎◌, inl, inr, ℕ, ◌+◌, ◌≤◌, List, [], ◌++◌, length, take, drop, sym, ◌∙◌, ap, arith, append_assoc}
 use Rattle.std.proofs.lemmas.List.{take-append-drop}
+use Rattle.tk_disk.specs.Past.{Past}
 use Rattle.tk_disk.specs.Crash.{Torn, Follows, Within, LeavesOnly, OnlyReads}
 use Rattle.tk_model.specs.declared.record.Group.{Group}
 use Rattle.tk_block.specs.declared.head.StaticHead.{StaticHead}
@@ -36,8 +37,8 @@ module _ {D : Type 0} (may_leave : D → List ℕ → Type 0) (moment : D → �
     since = λ kept t c earlier left. elim (second.since (first.now kept) t c (omega (arith, earlier, first.later)) left) [ inl past ↦ first.since kept t c earlier past | inr is ↦ inr is ];
   }
 
-  pub keeps_read : (old new : D) → OnlyReads may_leave moment left_since old new → Keeps old new
-  keeps_read old new still = record {
+  pub keeps_read : (past : D → Past) (left_with : D → ℕ → Past × List ℕ → Type 0) (old new : D) → OnlyReads may_leave moment left_since past left_with old new → Keeps old new
+  keeps_read past left_with old new still = record {
     later = still.time.later;
     now = λ kept c left. kept c (still.crash c left);
     since = λ kept t c earlier left. elim (still.time.nothing_else t c earlier left) [ inl past ↦ inl past | inr is ↦ inr (kept c (still.crash c is)) ];

@@ -3,7 +3,9 @@ pub mod Buckets
 pub mod Chained
 pub mod Chains
 pub mod Counted
+pub mod Ended
 pub mod Extents
+pub mod Fairness
 pub mod Fields
 pub mod Filled
 pub mod Fronts

@@ -1,28 +1,28 @@
 -- A walk along a chain.
 use Rattle.std.proofs.Common.{◌≡◌, ◌≢◌, ℕ, ◌+◌, ◌*◌, ◌<◌, ◌≤◌, ◌^◌, List, [], ◌∷◌, length, take, drop, refl, sym, ◌∙◌, ap, subst, arith}
-use Rattle.std.specs.Prelude.{Bool, true, false, Option, Some, None, Result, Ok, Err, IfOk, IfSome, if◌then◌else◌}
+use Rattle.std.specs.Prelude.{Bool, true, false, Option, Some, None, Result, Ok, Err, IfOk, IfSome, slice_index, if◌then◌else◌}
 use Rattle.tk_model.specs.declared.record.Group.{Group}
 use Rattle.tk_model.proofs.KeyOrders.{same_told}
 use Rattle.tk_block.specs.declared.head.StaticHead.{StaticHead}
 use Rattle.tk_block.specs.Number.{u64_in}
-use Rattle.tk_block.specs.Text.{base_of}
 use Rattle.tk_block.specs.Blocks.{extent_of}
-use Rattle.tk_block.specs.Layout.{Placed, bucket_in, bodies_of}
+use Rattle.tk_block.specs.Layout.{Placed, bucket_in, newest}
+use Rattle.tk_append.specs.Log.{blocks_of}
 use Rattle.tk_append.specs.FileText.{IsFile}
-use Rattle.tk_append.proofs.Layouts.{end_of-least}
 use Rattle.tk_hash.specs.Chain.{chain_of, value_in, value_by, extents}
 use Rattle.tk_hash.specs.Linked.{StandsAt, IsChained, Sees, Decides, Left, shown}
-use Rattle.tk_hash.proofs.Chained.{file_parts, file_chained}
+use Rattle.tk_hash.specs.Seek.{KnowsHeads}
+use Rattle.tk_hash.proofs.Chained.{newest_chained}
+use Rattle.tk_hash.proofs.HashKeeps.{heads_in}
 
 -- ---- the head of a bucket
 
-pub head_told : {E : Type 0} (o : Option (List ℕ)) (r : Result ℕ E) (h : StaticHead) (bucket : ℕ) (key : List ℕ) (groups : List Group) → bucket ≡ bucket_in h.p key → bucket < 2 ^ h.p
-    → IfSome o (λ f. 64 + 8 * bucket + 8 ≤ length f → IfOk r (λ n. n ≡ u64_in f (64 + 8 * bucket))) → IfSome o (λ f. IsFile h f groups → IfOk r (λ n. IsChained f n (chain_of h (bucket_in h.p key) groups)))
-head_told None r h bucket key groups is below read = tt
-head_told (Some f) (Err e) h bucket key groups is below read = λ file. tt
-head_told (Some f) (Ok n) h bucket key groups is below read = λ file.
-    let long : base_of h.p ≤ length f = omega (arith, (file_parts h f groups file).1, end_of-least (base_of h.p) (bodies_of groups)) in
-    subst (λ (b : ℕ). IsChained f n (chain_of h b groups)) is (subst (λ (k : ℕ). IsChained f k (chain_of h bucket groups)) (sym (read (omega (arith, long, below)))) (file_chained h f groups bucket below file))
+pub head_told : (o : Option (List ℕ)) (h : StaticHead) (heads key : List ℕ) (first : ℕ) (groups : List Group) → KnowsHeads o h heads → first ≡ slice_index heads (bucket_in h.p key) → bucket_in h.p key < 2 ^ h.p
+    → IfSome o (λ f. IsFile h f groups → IsChained f first (chain_of h (bucket_in h.p key) groups))
+head_told None h heads key first groups know is below = tt
+head_told (Some f) h heads key first groups know is below = λ file.
+    let head : first ≡ newest h.p (bucket_in h.p key) 0 (blocks_of h groups) = is ∙ (heads_in (Some f) h heads groups know file).newest_each (bucket_in h.p key) below in
+    subst (λ (k : ℕ). IsChained f k (chain_of h (bucket_in h.p key) groups)) (sym head) (newest_chained h f groups (bucket_in h.p key) file)
 
 -- ---- one block more
 

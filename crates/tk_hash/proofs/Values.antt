@@ -28,18 +28,16 @@ module _ (h : StaticHead) (key : List ℕ) (groups : List Group) where
   abbrev pub value : Option (List ℕ)
   value = find key (replay Hash groups [])
 
-  pub cost_told : (o mid : Option (List ℕ)) (first before was now : ℕ) → mid ≡ o → IfSome o (λ f. IsFile h f groups → IsChained f first chain) → was ≤ before + 8
-      → ((xs : List Placed) → IfSome mid (λ f. IsChained f first xs → now ≤ was + extents xs)) → IfSome o (λ f. IsFile h f groups → now ≤ before + cost_in h groups key)
-  cost_told None mid first before was now is chained head costs = tt
-  cost_told (Some f) mid first before was now is chained head costs = λ file.
-      let most : now ≤ was + extents chain = subst (λ (m : Option (List ℕ)). IfSome m (λ f. IsChained f first chain → now ≤ was + extents chain)) is (costs chain) (chained file) in
-      omega (arith, most, head)
+  pub cost_told : (o : Option (List ℕ)) (first was now : ℕ) → IfSome o (λ f. IsFile h f groups → IsChained f first chain)
+      → ((xs : List Placed) → IfSome o (λ f. IsChained f first xs → now ≤ was + extents xs)) → IfSome o (λ f. IsFile h f groups → now ≤ was + cost_in h groups key)
+  cost_told None first was now chained costs = tt
+  cost_told (Some f) first was now chained costs = λ file. costs chain (chained file)
 
   module _ (buffer : List ℕ) (was now : ℕ) where
-    pub found_told : (o mid : Option (List ℕ)) (first : ℕ) (at : Option ℕ) → mid ≡ o → IfSome o (λ f. IsFile h f groups → IsChained f first chain)
-        → ((xs : List Placed) → IfSome mid (λ f. IsChained f first xs → Found key xs f buffer was now at)) → IfSome o (λ f. IsFile h f groups → Found key chain f buffer was now at)
-    found_told None mid first at is chained found = tt
-    found_told (Some f) mid first at is chained found = λ file. subst (λ (m : Option (List ℕ)). IfSome m (λ f. IsChained f first chain → Found key chain f buffer was now at)) is (found chain) (chained file)
+    pub found_told : (o : Option (List ℕ)) (first : ℕ) (at : Option ℕ) → IfSome o (λ f. IsFile h f groups → IsChained f first chain)
+        → ((xs : List Placed) → IfSome o (λ f. IsChained f first xs → Found key xs f buffer was now at)) → IfSome o (λ f. IsFile h f groups → Found key chain f buffer was now at)
+    found_told None first at chained found = tt
+    found_told (Some f) first at chained found = λ file. found chain (chained file)
 
     pub none_told : (o : Option (List ℕ)) (at : Option ℕ) → at ≡ None → IfSome o (λ f. IsFile h f groups → Found key chain f buffer was now at) → IfSome o (λ f. IsFile h f groups → value ≡ None)
     none_told None at none found = tt
@@ -55,10 +53,10 @@ module _ (h : StaticHead) (key : List ℕ) (groups : List Group) where
         let d = decides f at place some (found file) in
         found_in_chain h groups key ∙ d.value ∙ ap (λ (t : Bool). if t then Some d.block.body.value else None) (ne_eqb d.block.body.kind 1 (λ e. ne (d.shows.kind ∙ e)))
 
-    pub value_told : (o : Option (List ℕ)) (at : Option ℕ) (place len before : ℕ) → at ≡ Some place → get_or buffer 24 0 ≡ 1 → len ≡ u32_in buffer 28 → was ≤ before + 8 → IfSome o (λ f. IsFile h f groups → Found key chain f buffer was now at)
-        → IfSome o (λ f. IsFile h f groups → HasValue key value f buffer before now (cost_in h groups key) (record { place = place; len = len }))
-    value_told None at place len before some kind is head found = tt
-    value_told (Some f) at place len before some kind is head found = λ file.
+    pub value_told : (o : Option (List ℕ)) (at : Option ℕ) (place len : ℕ) → at ≡ Some place → get_or buffer 24 0 ≡ 1 → len ≡ u32_in buffer 28 → IfSome o (λ f. IsFile h f groups → Found key chain f buffer was now at)
+        → IfSome o (λ f. IsFile h f groups → HasValue key value f buffer was now (cost_in h groups key) (record { place = place; len = len }))
+    value_told None at place len some kind is found = tt
+    value_told (Some f) at place len some kind is found = λ file.
         let d = decides f at place some (found file) in
         record {
           block = d.block;
@@ -69,7 +67,7 @@ module _ (h : StaticHead) (key : List ℕ) (groups : List Group) where
           shows = d.shows;
           value_is = found_in_chain h groups key ∙ d.value ∙ ap (λ (t : Bool). if t then Some d.block.body.value else None) (eq-eqb d.block.body.kind 1 (sym d.shows.kind ∙ kind));
           len = is ∙ d.shows.value;
-          left = omega (arith, d.left, head);
+          left = d.left;
         }
 
     -- ---- what a look-up answers

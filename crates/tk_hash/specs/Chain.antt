@@ -34,9 +34,9 @@ abbrev pub extents : List Placed → ℕ
 extents [] = 0
 extents (x ∷ xs) = extent_of x.body + extents xs
 
--- the most bytes that a look-up takes: the head of the key's bucket and the blocks of its chain
+-- the most bytes that a look-up takes: the blocks of the chain of the key's bucket
 abbrev pub cost_in : StaticHead → List Group → (key : List ℕ) → ℕ
-cost_in h groups key = 8 + extents (chain_of h (bucket_in h.p key) groups)
+cost_in h groups key = extents (chain_of h (bucket_in h.p key) groups)
 
 -- the records of a bucket
 abbrev pub in_bucket : (p bucket : ℕ) → List Pair → List Pair

@@ -1,6 +1,7 @@
 -- A hash file as a store.
-use Rattle.std.specs.Prelude.{◌≡◌, ◌≢◌, ◌⊎◌, ℕ, ◌+◌, ◌<◌, ◌≤◌, ◌^◌, min, true, false, List, [], ◌++◌, length, take, MatchOption, Option, Some, None, IfSome}
+use Rattle.std.specs.Prelude.{◌≡◌, ◌≢◌, ◌⊎◌, ℕ, ◌+◌, ◌<◌, ◌≤◌, ◌^◌, ◌==◌, ◌&&◌, if◌then◌else◌, min, true, false, List, [], ◌++◌, length, take, MatchOption, Option, Some, None, IfSome}
 use Rattle.std.specs.Option.{option_map}
+use Rattle.tk_disk.specs.Past.{Past}
 use Rattle.tk_disk.specs.Crash.{OnlyReads}
 use Rattle.tk_model.specs.Records.{after, replay, AllFit, IsClearAlone}
 use Rattle.tk_model.specs.declared.record.Order.TheVariants.{Hash}
@@ -16,11 +17,13 @@ use Rattle.tk_append.specs.Chains.{HeadsAre}
 use Rattle.tk_append.specs.declared.log.GroupLog.{GroupLog}
 use Rattle.tk_append.specs.Log.{AreGroups, blocks_of}
 use Rattle.tk_append.specs.LogParts.{log_disk, log_head, log_end, open_mark, IsReady}
-use Rattle.tk_append.specs.Restored.{groups_in, restored_groups, IsUntorn, IsKept}
+use Rattle.tk_append.specs.Restored.{groups_in, restored_groups, IsKept}
+use Rattle.tk_append.specs.FairPast.{IsFairPast}
+use Rattle.tk_append.specs.Untorn.{IsUntornBy}
 use Rattle.tk_append.specs.FileText.{text_of, IsFile}
 use Rattle.tk_hash.specs.Chain.{cost_in}
 use Rattle.tk_hash.specs.Plan.{with_heads, FitHeads}
-use Rattle.tk_hash.specs.Seek.{IsShelf}
+use Rattle.tk_hash.specs.Seek.{KnowsHeads, KnowsKey, IsShelf}
 use Rattle.tk_hash.specs.declared.store.HashStore.{HashStore}
 use Rattle.tk_hash.specs.declared.store.Staged.{Staged}
 
@@ -39,6 +42,10 @@ abbrev pub floor_of : (next : ℕ) → Option ℕ → ℕ
 floor_of next None = next
 floor_of next (Some n) = n + 1
 
+-- the next number of a closing part, where the file is closed
+abbrev pub ended_with : Closing → Option ℕ
+ended_with c = if c.size == 0 then None else Some c.next
+
 -- an image restores to the first groups followed by a front of these, at least n of them
 pub record RestoresTo (first groups : List Group) (n : ℕ) (c : List ℕ) : Type 0 where
   pub count : ℕ
@@ -46,8 +53,8 @@ pub record RestoresTo (first groups : List Group) (n : ℕ) (c : List ℕ) : Typ
   pub most : count ≤ length groups
   pub front : restored_groups c ≡ first ++ take count groups
 
--- a log over the closed file of these groups, with this closing part
-pub record IsClosedLog {D : Type 0} (image : D → Option (List ℕ)) (log : GroupLog D) (closing : Closing) (groups : List Group) : Type 0 where
+-- a log over the closed file of these groups, with this closing part and these heads
+pub record IsClosedLog {D : Type 0} (image : D → Option (List ℕ)) (log : GroupLog D) (closing : Closing) (heads : List ℕ) (groups : List Group) : Type 0 where
   pub header : is_static (log_head log) ≡ true
   pub generation : (log_head log).generation < 2 ^ 64
   pub legal : AreGroups 0 closing.next groups
@@ -57,6 +64,7 @@ pub record IsClosedLog {D : Type 0} (image : D → Option (List ℕ)) (log : Gro
   pub count : closing.count ≡ length (replay Hash groups [])
   pub end_is : log_end log ≡ end_of (base_of (log_head log).p) (bodies_of groups)
   pub text : IfSome (image (log_disk log)) (λ f. f ≡ text_of (log_head log) closing groups)
+  pub heads_are : HeadsAre (log_head log).p heads (blocks_of (log_head log) groups)
 
 -- from one disk to the next: where every image has these groups, every image goes on to have them
 pub record KeepsGroups {D : Type 0} (may_leave : D → List ℕ → Type 0) (moment : D → ℕ) (left_since : D → ℕ → List ℕ → Type 0) (h : StaticHead) (groups : List Group) (old new : D) : Type 0 where
@@ -70,9 +78,9 @@ module _ {D : Type 0} where
   hash_disk s = log_disk s.log
 
   -- from one state to another the file was read at most
-  pub record HashUntouched (image : D → Option (List ℕ)) (may_leave : D → List ℕ → Type 0) (moment : D → ℕ) (left_since : D → ℕ → List ℕ → Type 0) (old new : HashStore D) : Type 0 where
+  pub record HashUntouched (image : D → Option (List ℕ)) (may_leave : D → List ℕ → Type 0) (past : D → Past) (moment : D → ℕ) (left_since : D → ℕ → List ℕ → Type 0) (left_with : D → ℕ → Past × List ℕ → Type 0) (old new : HashStore D) : Type 0 where
     pub same : image (hash_disk new) ≡ image (hash_disk old)
-    pub still : OnlyReads may_leave moment left_since (hash_disk old) (hash_disk new)
+    pub still : OnlyReads may_leave moment left_since past left_with (hash_disk old) (hash_disk new)
 
   abbrev pub hash_head : HashStore D → StaticHead
   hash_head s = log_head s.log
@@ -81,7 +89,7 @@ module _ {D : Type 0} where
   hash_closing s = s.closing
 
   abbrev pub hash_nature : HashStore D → Nature
-  hash_nature s = record { order = Hash; limit = min s.limit (2 ^ 40); next = s.next; writable = s.writable; marks = false; extents = Some 1; header = static_text (log_head s.log); log = None }
+  hash_nature s = record { order = Hash; limit = min s.limit (2 ^ 40); next = s.next; longest_value = 33554431; writable = s.writable; marks = false; extents = Some 1; header = static_text (log_head s.log); log = None }
 
   -- the records of the file, where the disk tells it
   abbrev pub map_in : (image : D → Option (List ℕ)) → HashStore D → Option (List (Rattle.tk_model.specs.declared.record.Pair.Pair))
@@ -94,6 +102,7 @@ module _ {D : Type 0} where
     floor = floor_of s.next s.last;
     held_back = false;
     closed = s.closed;
+    ended = if s.closed && s.writable then ended_with s.closing else None;
     cost = λ k. option_map (λ f. cost_in (log_head s.log) (groups_in (log_head s.log) f) k) (image (log_disk s.log));
     needs = λ cs. Some (extents_need (hash_nature s) 1 cs);
     log_size = 0;
@@ -102,14 +111,14 @@ module _ {D : Type 0} where
   -- what waits is a group of these changes behind any groups that the file may have: its links, the heads and the count of records after it
   pub record IsStaged (image : D → Option (List ℕ)) (s : HashStore D) (cs : List Change) (g : Staged) : Type 0 where
     pub some : cs ≢ []
-    pub heads : FitHeads (log_head s.log).p g.heads
+    pub heads : FitHeads (2 ^ (log_head s.log).p) g.heads
     pub links : List ℕ
     pub ready : IsReady s.log cs links
     pub ends : (number : ℕ) → end_of (log_end s.log) (group_bodies number cs) ≤ 2 ^ 40
     pub links_are : (number : ℕ) (groups : List Group) → IfSome (image (log_disk s.log)) (λ f. IsFile (log_head s.log) f groups
         → links ≡ links_of (log_head s.log).p (blocks_of (log_head s.log) groups) (laid (log_end s.log) (group_bodies number cs)))
-    pub heads_are : (number : ℕ) (groups : List Group) (heads : List ℕ) → IfSome (image (log_disk s.log)) (λ f. IsFile (log_head s.log) f groups → HeadsAre (log_head s.log).p heads (blocks_of (log_head s.log) groups)
-        → HeadsAre (log_head s.log).p (with_heads g.heads heads) (blocks_of (log_head s.log) groups ++ laid (log_end s.log) (group_bodies number cs)))
+    pub heads_are : (number : ℕ) (groups : List Group) → IfSome (image (log_disk s.log)) (λ f. IsFile (log_head s.log) f groups
+        → HeadsAre (log_head s.log).p (with_heads g.heads s.heads.items) (blocks_of (log_head s.log) groups ++ laid (log_end s.log) (group_bodies number cs)))
     pub count_is : (groups : List Group) → IfSome (image (log_disk s.log)) (λ f. IsFile (log_head s.log) f groups → s.count ≡ length (replay Hash groups [])
         → g.count ≡ length (after Hash cs (replay Hash groups [])))
 
@@ -119,7 +128,7 @@ module _ {D : Type 0} where
     pub may : s.writable ≡ false → cs ≡ []
     pub staged : MatchOption s.staged (cs ≡ []) (IsStaged image s cs)
 
-  pub record HashStands (image : D → Option (List ℕ)) (may_leave : D → List ℕ → Type 0) (s : HashStore D) (first : First) (since : List Group) (hard : ℕ) : Type 0 where
+  pub record HashStands (image : D → Option (List ℕ)) (may_leave : D → List ℕ → Type 0) (past : D → Past) (s : HashStore D) (first : First) (since : List Group) (hard : ℕ) : Type 0 where
     pub groups : List Group
     pub held : first.held ≡ Groups groups
     pub records_first : first.records ≡ replay Hash groups []
@@ -133,6 +142,8 @@ module _ {D : Type 0} where
     pub end_is : log_end s.log ≡ end_of (base_of (log_head s.log).p) (bodies_of (groups ++ since))
     pub end_fits : log_end s.log < 2 ^ 64
     pub buffer : 131072 ≤ length s.buffer.items
+    pub heads : KnowsHeads (image (log_disk s.log)) (log_head s.log) s.heads.items
+    pub found : KnowsKey (image (log_disk s.log)) (log_head s.log) s.found
     -- a file that is written is marked as open until it is closed
     pub mark : s.writable ≡ true → s.closed ≡ false → s.closing ≡ open_mark
     -- a file that is read alone gets no group and keeps its closing part
@@ -143,19 +154,22 @@ module _ {D : Type 0} where
     pub shelf : IfSome (image (log_disk s.log)) (λ f. IsShelf (log_head s.log) (groups ++ since) s.shelf)
     -- a crash leaves the groups that were synchronised
     pub kept : s.writable ≡ true → IfSome (image (log_disk s.log)) (λ f. (c : List ℕ) → may_leave (log_disk s.log) c → IsKept (log_head s.log) (groups ++ take hard since) c)
+    -- nothing was written since the last hard synchronisation but the groups at their places, heads and the closing part
+    pub fair : s.writable ≡ true → IfSome (image (log_disk s.log)) (λ f. IsFairPast (log_head s.log) (groups ++ since) (past (log_disk s.log)))
 
-  -- Of a file that was opened for writing: whatever is written later, an untorn image since the time restores to the groups
-  -- of the opening and a front of those since, at least n of them.
-  pub record HashSafe (image : D → Option (List ℕ)) (left_since : D → ℕ → List ℕ → Type 0) (s : HashStore D) (t : ℕ) (first : First) (since : List Group) (n : ℕ) : Type 0 where
+  -- Of a file that was opened for writing, at each moment since the time: an image that is untorn by what had been written then
+  -- restores to the groups of the opening and a front of those since, at least n of them.
+  pub record HashSafe (image : D → Option (List ℕ)) (left_since : D → ℕ → List ℕ → Type 0) (left_with : D → ℕ → Past × List ℕ → Type 0) (s : HashStore D) (t : ℕ) (first : First) (since : List Group) (n : ℕ) : Type 0 where
     pub within : n ≤ length since
-    pub each : s.writable ≡ true → IfSome (image (log_disk s.log)) (λ f. (c : List ℕ) (more : List Group) → left_since (log_disk s.log) t c
-        → AreGroups 0 (2 ^ 64) (groups_held first.held ++ (since ++ more)) → IsUntorn (log_head s.log) (groups_held first.held ++ (since ++ more)) c
-        → RestoresTo (groups_held first.held) (since ++ more) n c)
+    pub each : s.writable ≡ true → IfSome (image (log_disk s.log)) (λ f. (x : Past × List ℕ) → left_with (log_disk s.log) t x → IsUntornBy (log_head s.log) x.0 x.1
+        → RestoresTo (groups_held first.held) since n x.1)
+    -- nothing had been written then but the groups at their places, heads and the closing part
+    pub fair : s.writable ≡ true → IfSome (image (log_disk s.log)) (λ f. (x : Past × List ℕ) → left_with (log_disk s.log) t x → IsFairPast (log_head s.log) (groups_held first.held ++ since) x.0)
     -- each image since the time, untorn or not, has the header and the blocks of the groups of the opening and of the first n since
     pub kept : s.writable ≡ true → IfSome (image (log_disk s.log)) (λ f. (c : List ℕ) → left_since (log_disk s.log) t c → IsKept (log_head s.log) (groups_held first.held ++ take n since) c)
 
-  pub record HashStood (image : D → Option (List ℕ)) (may_leave : D → List ℕ → Type 0) (moment : D → ℕ) (left_since : D → ℕ → List ℕ → Type 0) (s : HashStore D) (t n : ℕ) (first : First) (since : List Group) (hard : ℕ) : Type 0 where
-    pub stands : HashStands image may_leave s first since hard
-    pub safe : HashSafe image left_since s t first since n
+  pub record HashStood (image : D → Option (List ℕ)) (may_leave : D → List ℕ → Type 0) (past : D → Past) (moment : D → ℕ) (left_since : D → ℕ → List ℕ → Type 0) (left_with : D → ℕ → Past × List ℕ → Type 0) (s : HashStore D) (t n : ℕ) (first : First) (since : List Group) (hard : ℕ) : Type 0 where
+    pub stands : HashStands image may_leave past s first since hard
+    pub safe : HashSafe image left_since left_with s t first since n
     pub least : n ≤ hard
     pub before : t ≤ moment (log_disk s.log)

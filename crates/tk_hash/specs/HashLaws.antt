@@ -1,6 +1,6 @@
 -- The laws of hash files as stores.
-use Rattle.std.proofs.Common.{◌≡◌, ℕ, ◌+◌, ◌-◌, ◌<◌, ◌≤◌, ◌^◌, List, [], ◌∷◌, ◌++◌, length, take, drop, true, refl, sym, ◌∙◌, ap, subst, arith, length-append, length-take, length-drop, append_assoc}
-use Rattle.std.specs.Prelude.{Option, Some, None, IfSome}
+use Rattle.std.proofs.Common.{◌≡◌, ℕ, ◌+◌, ◌-◌, ◌<◌, ◌≤◌, ◌^◌, List, [], ◌∷◌, ◌++◌, length, take, drop, true, false, refl, sym, ◌∙◌, ap, subst, arith, length-append, length-take, length-drop, append_assoc}
+use Rattle.std.specs.Prelude.{Bool, Option, Some, None, IfSome, ◌==◌, ◌&&◌, if◌then◌else◌}
 use Rattle.std.specs.Option.{option_map}
 use Rattle.std.proofs.lemmas.List.{take-append-drop, take-append-le, append-nil}
 use Rattle.std.proofs.lemmas.Option.{IfSome_then}
@@ -23,11 +23,17 @@ use Rattle.tk_block.proofs.Grammar.{length-static_text, length-closing_text}
 use Rattle.tk_append.specs.Log.{AreGroups, blocks_of}
 use Rattle.tk_append.specs.LogParts.{log_disk, log_head, log_end}
 use Rattle.tk_append.specs.FileText.{text_of, IsFile}
-use Rattle.tk_append.specs.Restored.{groups_in, groups_text, IsUntorn, IsKept}
+use Rattle.tk_append.specs.Restored.{groups_in, groups_text, IsKept}
+use Rattle.tk_append.specs.Untorn.{IsUntornBy}
+use Rattle.tk_append.specs.FairPast.{IsFairPast}
+use Rattle.tk_append.proofs.Fair.{fair_restores}
+use Rattle.tk_append.proofs.FairPasts.{fair_more}
 use Rattle.tk_append.proofs.Groupings.{groups_upto}
-use Rattle.tk_append.proofs.Restoring.{reads_back, restores, kept_less}
+use Rattle.tk_append.proofs.Restoring.{reads_back, kept_less}
 use Rattle.tk_hash.specs.declared.store.HashStore.{HashStore}
-use Rattle.tk_hash.specs.Hash.{groups_held, floor_of, RestoresTo, hash_nature, hash_shown, map_in, HashStands, HashSafe, HashStood}
+use Rattle.tk_disk.specs.Past.{Past}
+use Rattle.tk_disk.proofs.Moments.{nothing_read, reads_joined}
+use Rattle.tk_hash.specs.Hash.{hash_disk, HashUntouched, ended_with, groups_held, floor_of, RestoresTo, hash_nature, hash_shown, map_in, HashStands, HashSafe, HashStood}
 
 groups_from : (low least next : ℕ) (gs : List Group) → low ≤ least → AreGroups least next gs → AreGroups low next gs
 groups_from low least next [] le legal = omega (arith, le, legal)
@@ -78,12 +84,13 @@ take_both n k gs le =
     let len : length (take n gs) ≡ n = omega (arith, length-take n gs) in
     sym (take-append-add (take n gs) (drop n gs) k) ∙ ap (λ (m : ℕ). take (m + k) (take n gs ++ drop n gs)) len ∙ ap (λ (l : List Group). take (n + k) l) (take-append-drop n gs)
 
--- an untorn image that kept some of the groups restores to at least these
-pub front_of : (h : StaticHead) (first gs : List Group) (n : ℕ) (c : List ℕ) → is_static h ≡ true → h.generation < 2 ^ 64 → n ≤ length gs → AreGroups 0 (2 ^ 64) (first ++ gs) → IsKept h (first ++ take n gs) c → IsUntorn h (first ++ gs) c → RestoresTo first gs n c
-front_of h first gs n c header generation le legal kept untorn =
+-- an image that kept some of the groups and is untorn by a fair past restores to at least these
+pub front_of : (h : StaticHead) (first gs : List Group) (n : ℕ) (p : Past) (c : List ℕ) → is_static h ≡ true → h.generation < 2 ^ 64 → n ≤ length gs → AreGroups 0 (2 ^ 64) (first ++ gs) → IsKept h (first ++ take n gs) c → IsFairPast h (first ++ gs) p → IsUntornBy h p c → RestoresTo first gs n c
+front_of h first gs n p c header generation le legal kept fair untorn =
     let whole : (first ++ take n gs) ++ drop n gs ≡ first ++ gs = append_assoc first (take n gs) (drop n gs) ∙ ap (λ (l : List Group). first ++ l) (take-append-drop n gs) in
-    let r = restores h (first ++ take n gs) (drop n gs) (2 ^ 64) c header generation (subst (λ (l : List Group). AreGroups 0 (2 ^ 64) l) (sym whole) legal) (omega arith) kept
-    (subst (λ (l : List Group). IsUntorn h l c) (sym whole) untorn) in
+    let r = fair_restores h (first ++ take n gs) (drop n gs) (2 ^ 64) p c header generation (subst (λ (l : List Group). AreGroups 0 (2 ^ 64) l) (sym whole) legal) (omega arith) kept
+    (subst (λ (l : List Group). IsFairPast h l p) (sym whole) fair) untorn in
+    let len : length (take n gs) ≡ n = omega (arith, length-take n gs) in
     record {
       count = n + r.0;
       least = omega arith;
@@ -91,12 +98,14 @@ front_of h first gs n c header generation le legal kept untorn =
       front = r.2 ∙ append_assoc first (take n gs) (take r.0 (drop n gs)) ∙ ap (λ (l : List Group). first ++ l) (take_both n r.0 gs le);
     }
 
--- the same of groups behind which more are written
-pub front_more : (h : StaticHead) (first since more : List Group) (n : ℕ) (c : List ℕ) → is_static h ≡ true → h.generation < 2 ^ 64 → n ≤ length since → IsKept h (first ++ take n since) c
-    → AreGroups 0 (2 ^ 64) (first ++ (since ++ more)) → IsUntorn h (first ++ (since ++ more)) c → RestoresTo first (since ++ more) n c
-front_more h first since more n c header generation le kept legal untorn =
-    front_of h first (since ++ more) n c header generation (omega (arith, le, length-append since more)) legal
-    (subst (λ (l : List Group). IsKept h (first ++ l) c) (sym (take-append-le n since more le)) kept) untorn
+-- what restores to a front of some groups restores to a front of them and more
+restores_more : (first since more : List Group) (n : ℕ) (c : List ℕ) → RestoresTo first since n c → RestoresTo first (since ++ more) n c
+restores_more first since more n c r = record {
+  count = r.count;
+  least = r.least;
+  most = omega (arith, r.most, length-append since more);
+  front = r.front ∙ ap (λ (l : List Group). first ++ l) (sym (take-append-le r.count since more r.most));
+}
 
 -- what kept so many groups kept fewer of them
 pub kept_front : (h : StaticHead) (first since : List Group) (m n : ℕ) (c : List ℕ) → m ≤ n → n ≤ length since → IsKept h (first ++ take n since) c → IsKept h (first ++ take m since) c
@@ -112,22 +121,25 @@ less_kept : (o : Option (List ℕ)) (left : List ℕ → Type 0) (h : StaticHead
 less_kept o left h first since more m n le within kept = IfSome_then o kept (λ f kept c l.
     subst (λ (gs : List Group). IsKept h (first ++ gs) c) (sym (take-append-le m since more (omega (arith, le, within)))) (kept_front h first since m n c le within (kept c l)))
 
--- images that kept the groups restore to them, where they are untorn
-pub kept_each : (o : Option (List ℕ)) (left : List ℕ → Type 0) (h : StaticHead) (first since : List Group) (n : ℕ) → is_static h ≡ true → h.generation < 2 ^ 64 → n ≤ length since → IfSome o (λ f. (c : List ℕ) → left c → IsKept h (first ++ take n since) c)
-    → IfSome o (λ f. (c : List ℕ) (more : List Group) → left c → AreGroups 0 (2 ^ 64) (first ++ (since ++ more)) → IsUntorn h (first ++ (since ++ more)) c → RestoresTo first (since ++ more) n c)
-kept_each o left h first since n header generation within kept = IfSome_then o kept (λ f kept c more l legal untorn. front_more h first since more n c header generation within (kept c l) legal untorn)
+-- images that kept the groups restore to them, where they are untorn by fair pasts
+pub fair_each : (o : Option (List ℕ)) (left : List ℕ → Type 0) (with : Past × List ℕ → Type 0) (h : StaticHead) (first since : List Group) (n : ℕ) → is_static h ≡ true → h.generation < 2 ^ 64 → n ≤ length since → AreGroups 0 (2 ^ 64) (first ++ since)
+    → ((x : Past × List ℕ) → with x → left x.1) → IfSome o (λ f. (c : List ℕ) → left c → IsKept h (first ++ take n since) c) → IfSome o (λ f. (x : Past × List ℕ) → with x → IsFairPast h (first ++ since) x.0)
+    → IfSome o (λ f. (x : Past × List ℕ) → with x → IsUntornBy h x.0 x.1 → RestoresTo first since n x.1)
+fair_each None left with h first since n header generation within legal back kept fair = tt
+fair_each (Some f) left with h first since n header generation within legal back kept fair = λ x l untorn. front_of h first since n x.0 x.1 header generation within legal (kept x.1 (back x l)) (fair x l) untorn
 
-less_each : (o : Option (List ℕ)) (left : List ℕ → Type 0) (h : StaticHead) (first since more : List Group) (m n : ℕ) → m ≤ n
-    → IfSome o (λ f. (c : List ℕ) (more : List Group) → left c → AreGroups 0 (2 ^ 64) (first ++ (since ++ more)) → IsUntorn h (first ++ (since ++ more)) c → RestoresTo first (since ++ more) n c)
-    → IfSome o (λ f. (c : List ℕ) (rest : List Group) → left c → AreGroups 0 (2 ^ 64) (first ++ ((since ++ more) ++ rest)) → IsUntorn h (first ++ ((since ++ more) ++ rest)) c → RestoresTo first ((since ++ more) ++ rest) m c)
-less_each o left h first since more m n le each = IfSome_then o each (λ f each c rest l legal u.
-    let joined : (since ++ more) ++ rest ≡ since ++ (more ++ rest) = append_assoc since more rest in
-    subst (λ (l : List Group). RestoresTo first l m c) (sym joined)
-    (weaker first (since ++ (more ++ rest)) m n c le (each c (more ++ rest) l (subst (λ (l : List Group). AreGroups 0 (2 ^ 64) (first ++ l)) joined legal) (subst (λ (l : List Group). IsUntorn h (first ++ l) c) joined u))))
+less_each : (o : Option (List ℕ)) (with : Past × List ℕ → Type 0) (h : StaticHead) (first since more : List Group) (m n : ℕ) → m ≤ n → IfSome o (λ f. (x : Past × List ℕ) → with x → IsUntornBy h x.0 x.1 → RestoresTo first since n x.1)
+    → IfSome o (λ f. (x : Past × List ℕ) → with x → IsUntornBy h x.0 x.1 → RestoresTo first (since ++ more) m x.1)
+less_each o with h first since more m n le each = IfSome_then o each (λ f each x l u. weaker first (since ++ more) m n x.1 le (restores_more first since more n x.1 (each x l u)))
+
+more_fair : (o : Option (List ℕ)) (with : Past × List ℕ → Type 0) (h : StaticHead) (first since more : List Group) → IfSome o (λ f. (x : Past × List ℕ) → with x → IsFairPast h (first ++ since) x.0)
+    → IfSome o (λ f. (x : Past × List ℕ) → with x → IsFairPast h (first ++ (since ++ more)) x.0)
+more_fair o with h first since more fair =
+    IfSome_then o fair (λ f fair x l. subst (λ (gs : List Group). IsFairPast h gs x.0) (append_assoc first since more) (fair_more h (first ++ since) more x.0 (fair x l)))
 
 module _ {D : Type 0} (image : D → Option (List ℕ)) where
-  module _ (may_leave : D → List ℕ → Type 0) where
-    module _ (s : HashStore D) (first : First) (since : List Group) (hard : ℕ) (st : HashStands image may_leave s first since hard) where
+  module _ (may_leave : D → List ℕ → Type 0) (past : D → Past) where
+    module _ (s : HashStore D) (first : First) (since : List Group) (hard : ℕ) (st : HashStands image may_leave past s first since hard) where
       pub all_legal : AreGroups 0 (floor_of s.next s.last) (st.groups ++ since)
       all_legal = groups_joined 0 s.next (floor_of s.next s.last) st.groups since st.legal st.later
 
@@ -140,48 +152,60 @@ module _ {D : Type 0} (image : D → Option (List ℕ)) where
       pub kept_held : s.writable ≡ true → IfSome (image (log_disk s.log)) (λ f. (c : List ℕ) → may_leave (log_disk s.log) c → IsKept (log_head s.log) (groups_held first.held ++ take hard since) c)
       kept_held may = subst (λ (gs : List Group). IfSome (image (log_disk s.log)) (λ f. (c : List ℕ) → may_leave (log_disk s.log) c → IsKept (log_head s.log) (gs ++ take hard since) c)) (sym (ap groups_held st.held)) (st.kept may)
 
-    pub hash_replays : (s : HashStore D) (first : First) (since : List Group) (hard : ℕ) → HashStands image may_leave s first since hard → IfSome (map_in image s) (λ m. m ≡ replay Hash since first.records)
+      pub fair_held : s.writable ≡ true → IfSome (image (log_disk s.log)) (λ f. IsFairPast (log_head s.log) (groups_held first.held ++ since) (past (log_disk s.log)))
+      fair_held may = subst (λ (gs : List Group). IfSome (image (log_disk s.log)) (λ f. IsFairPast (log_head s.log) (gs ++ since) (past (log_disk s.log)))) (sym (ap groups_held st.held)) (st.fair may)
+
+      pub legal_held : AreGroups 0 (2 ^ 64) (groups_held first.held ++ since)
+      legal_held = subst (λ (gs : List Group). AreGroups 0 (2 ^ 64) (gs ++ since)) (sym (ap groups_held st.held)) (groups_upto 0 (floor_of s.next s.last) (2 ^ 64) (st.groups ++ since) all_legal st.top)
+
+    pub hash_replays : (s : HashStore D) (first : First) (since : List Group) (hard : ℕ) → HashStands image may_leave past s first since hard → IfSome (map_in image s) (λ m. m ≡ replay Hash since first.records)
     hash_replays s first since hard st = mapped (image (log_disk s.log)) (λ f. replay Hash (groups_in (log_head s.log) f) []) (λ m. m ≡ replay Hash since first.records)
         (IfSome_then (image (log_disk s.log)) (is_file s first since hard st) (λ f file. ap (λ (gs : List Group). replay Hash gs []) (reads_back (log_head s.log) f (st.groups ++ since) file) ∙ records_are s first since hard st))
 
-    pub hash_rising : (s : HashStore D) (first : First) (since : List Group) (hard : ℕ) → HashStands image may_leave s first since hard → Rising Hash first.records
+    pub hash_rising : (s : HashStore D) (first : First) (since : List Group) (hard : ℕ) → HashStands image may_leave past s first since hard → Rising Hash first.records
     hash_rising s first since hard st = subst (λ (m : List Pair). Rising Hash m) (sym st.records_first) (replay_rising Hash st.groups [] tt)
 
-    pub hash_held : (s : HashStore D) (first : First) (since : List Group) (hard : ℕ) → HashStands image may_leave s first since hard → IfSome (map_in image s) AllHeld
+    pub hash_held : (s : HashStore D) (first : First) (since : List Group) (hard : ℕ) → HashStands image may_leave past s first since hard → IfSome (map_in image s) AllHeld
     hash_held s first since hard st = IfSome_then (map_in image s) (hash_replays s first since hard st)
         (λ m is. subst AllHeld (sym (is ∙ sym (records_are s first since hard st))) (replay_held Hash 0 (floor_of s.next s.last) (st.groups ++ since) [] (all_legal s first since hard st) tt))
 
-    module _ (moment : D → ℕ) (left_since : D → ℕ → List ℕ → Type 0) where
-      pub hash_stood_now : ((d : D) (c : List ℕ) → left_since d (moment d) c → may_leave d c) → (s : HashStore D) (first : First) (since : List Group) (hard : ℕ) → HashStands image may_leave s first since hard
-          → HashStood image may_leave moment left_since s (moment (log_disk s.log)) hard first since hard
-      hash_stood_now only s first since hard st =
+    module _ (moment : D → ℕ) (left_since : D → ℕ → List ℕ → Type 0) (left_with : D → ℕ → Past × List ℕ → Type 0) where
+      pub hash_stood_now : ((d : D) (c : List ℕ) → left_since d (moment d) c → may_leave d c) → ((d : D) (x : Past × List ℕ) → left_with d (moment d) x → (x.0 ≡ past d) × may_leave d x.1)
+          → ((d : D) (t : ℕ) (x : Past × List ℕ) → left_with d t x → left_since d t x.1) → (s : HashStore D) (first : First) (since : List Group) (hard : ℕ) → HashStands image may_leave past s first since hard
+          → HashStood image may_leave past moment left_since left_with s (moment (log_disk s.log)) hard first since hard
+      hash_stood_now only with back s first since hard st =
           let kept : s.writable ≡ true → IfSome (image (log_disk s.log)) (λ f. (c : List ℕ) → left_since (log_disk s.log) (moment (log_disk s.log)) c → IsKept (log_head s.log) (groups_held first.held ++ take hard since) c) = λ may.
           IfSome_then (image (log_disk s.log)) (kept_held s first since hard st may) (λ f kept c left. kept c (only (log_disk s.log) c left)) in
+          let fair : s.writable ≡ true → IfSome (image (log_disk s.log)) (λ f. (x : Past × List ℕ) → left_with (log_disk s.log) (moment (log_disk s.log)) x → IsFairPast (log_head s.log) (groups_held first.held ++ since) x.0) = λ may.
+          IfSome_then (image (log_disk s.log)) (fair_held s first since hard st may) (λ f fair x left. subst (λ (p : Past). IsFairPast (log_head s.log) (groups_held first.held ++ since) p) (sym (with (log_disk s.log) x left).0) fair) in
           record {
             stands = st;
             safe = record {
               within = st.synced;
-              each = λ may. kept_each (image (log_disk s.log)) (left_since (log_disk s.log) (moment (log_disk s.log))) (log_head s.log) (groups_held first.held) since hard st.header st.generation st.synced (kept may);
+              each = λ may. fair_each (image (log_disk s.log)) (left_since (log_disk s.log) (moment (log_disk s.log))) (left_with (log_disk s.log) (moment (log_disk s.log))) (log_head s.log) (groups_held first.held) since hard st.header st.generation st.synced
+                  (legal_held s first since hard st) (back (log_disk s.log) (moment (log_disk s.log))) (kept may) (fair may);
+              fair = fair;
               kept = kept;
             };
             least = omega arith;
             before = omega arith;
           }
 
-  module _ (left_since : D → ℕ → List ℕ → Type 0) where
-    pub hash_safe_less : (s : HashStore D) (t : ℕ) (first : First) (since more : List Group) (m n : ℕ) → m ≤ n → HashSafe image left_since s t first since n → HashSafe image left_since s t first (since ++ more) m
+  module _ (left_since : D → ℕ → List ℕ → Type 0) (left_with : D → ℕ → Past × List ℕ → Type 0) where
+    pub hash_safe_less : (s : HashStore D) (t : ℕ) (first : First) (since more : List Group) (m n : ℕ) → m ≤ n → HashSafe image left_since left_with s t first since n → HashSafe image left_since left_with s t first (since ++ more) m
     hash_safe_less s t first since more m n le safe = record {
       within = omega (arith, le, safe.within, length-append since more);
-      each = λ may. less_each (image (log_disk s.log)) (left_since (log_disk s.log) t) (log_head s.log) (groups_held first.held) since more m n le (safe.each may);
+      each = λ may. less_each (image (log_disk s.log)) (left_with (log_disk s.log) t) (log_head s.log) (groups_held first.held) since more m n le (safe.each may);
+      fair = λ may. more_fair (image (log_disk s.log)) (left_with (log_disk s.log) t) (log_head s.log) (groups_held first.held) since more (safe.fair may);
       kept = λ may. less_kept (image (log_disk s.log)) (left_since (log_disk s.log) t) (log_head s.log) (groups_held first.held) since more m n le safe.within (safe.kept may);
     }
 
-    pub hash_same_safe : (s : HashStore D) (t : ℕ) (first : First) (since : List Group) (m n : ℕ) → m ≤ n → HashSafe image left_since s t first since n → HashSafe image left_since s t first since m
-    hash_same_safe s t first since m n le safe = subst (λ (l : List Group). HashSafe image left_since s t first l m) (append-nil since) (hash_safe_less s t first since [] m n le safe)
+    pub hash_same_safe : (s : HashStore D) (t : ℕ) (first : First) (since : List Group) (m n : ℕ) → m ≤ n → HashSafe image left_since left_with s t first since n → HashSafe image left_since left_with s t first since m
+    hash_same_safe s t first since m n le safe = subst (λ (l : List Group). HashSafe image left_since left_with s t first l m) (append-nil since) (hash_safe_less s t first since [] m n le safe)
 
-    pub hash_stood_less : (may_leave : D → List ℕ → Type 0) (moment : D → ℕ) (s : HashStore D) (t m n : ℕ) (first : First) (since : List Group) (hard : ℕ) → m ≤ n → HashStood image may_leave moment left_since s t n first since hard
-        → HashStood image may_leave moment left_since s t m first since hard
-    hash_stood_less may_leave moment s t m n first since hard le st = record {
+    pub hash_stood_less : (may_leave : D → List ℕ → Type 0) (past : D → Past) (moment : D → ℕ) (s : HashStore D) (t m n : ℕ) (first : First) (since : List Group) (hard : ℕ) → m ≤ n → HashStood image may_leave past moment left_since left_with s t n first since hard
+        → HashStood image may_leave past moment left_since left_with s t m first since hard
+    hash_stood_less may_leave past moment s t m n first since hard le st = record {
       stands = st.stands;
       safe = hash_same_safe s t first since m n le st.safe;
       least = omega (arith, le, st.least);
@@ -190,3 +214,36 @@ module _ {D : Type 0} (image : D → Option (List ℕ)) where
 
   pub hash_by_extents : (s : HashStore D) (v : ℕ) (changes : List Change) → (hash_nature s).extents ≡ Some v → (hash_shown image s).needs changes ≡ Some (extents_need (hash_nature s) v changes)
   hash_by_extents s v changes is = let one : 1 ≡ v = cc in ap (λ (n : ℕ). Some (extents_need (hash_nature s) n changes)) one
+
+  pub hash_unended : (s : HashStore D) → (hash_shown image s).closed ≡ false → (hash_shown image s).ended ≡ None
+  hash_unended s unclosed = rw unclosed refl
+
+  chosen : (b : Bool) (o : Option ℕ) (n : ℕ) → (if b then o else None) ≡ Some n → o ≡ Some n
+  chosen true o n is = is
+  chosen false o n is = absurd (cc)
+
+  sized : (b : Bool) (m n : ℕ) → (if b then None else Some m) ≡ Some n → m ≡ n
+  sized true m n is = absurd (cc)
+  sized false m n is = cc
+
+  -- a store that was ended with a number has it in the closing part that stands in the file
+  pub hash_ended : (may_leave : D → List ℕ → Type 0) (past : D → Past) (s : HashStore D) (first : First) (since : List Group) (hard n : ℕ) → HashStands image may_leave past s first since hard → (hash_shown image s).ended ≡ Some n
+      → IfSome (image (hash_disk s)) (λ f. (c : Closing) × (c.next ≡ n) × (f ≡ text_of (log_head s.log) c (groups_held first.held ++ since)))
+  hash_ended may_leave past s first since hard n st ended =
+      let next : s.closing.next ≡ n = sized (s.closing.size == 0) s.closing.next n (chosen (s.closed && s.writable) (ended_with s.closing) n ended) in
+      IfSome_then (image (log_disk s.log)) st.there (λ f there. (s.closing, next, subst (λ (gs : List Group). f ≡ text_of (log_head s.log) s.closing (gs ++ since)) (sym (ap groups_held st.held)) there))
+
+pub hash_values : {D : Type 0} (s : HashStore D) → (16777215 ≤ (hash_nature s).longest_value) × ((hash_nature s).longest_value ≤ 33554431)
+hash_values s = (omega arith, omega arith)
+
+module _ {D : Type 0} (image : D → Option (List ℕ)) (may_leave : D → List ℕ → Type 0) (past : D → Past) (moment : D → ℕ) (left_since : D → ℕ → List ℕ → Type 0) (left_with : D → ℕ → Past × List ℕ → Type 0) where
+  pub hash_untouched_same : (s : HashStore D) → HashUntouched image may_leave past moment left_since left_with s s
+  hash_untouched_same s = record { same = refl; still = nothing_read may_leave moment left_since past left_with (hash_disk s) }
+
+  pub hash_untouched_then : ((disk : D) (t : ℕ) (c : List ℕ) → t ≤ moment disk → may_leave disk c → left_since disk t c)
+      → ((disk : D) (t : ℕ) (c : List ℕ) → t ≤ moment disk → may_leave disk c → left_with disk t (past disk, c)) → (a b c : HashStore D)
+      → HashUntouched image may_leave past moment left_since left_with a b → HashUntouched image may_leave past moment left_since left_with b c → HashUntouched image may_leave past moment left_since left_with a c
+  hash_untouched_then counts_now counts_with a b c first second = record {
+    same = second.same ∙ first.same;
+    still = reads_joined may_leave moment left_since past left_with counts_now counts_with (hash_disk a) (hash_disk b) (hash_disk c) first.still second.still;
+  }

@@ -1,4 +1,5 @@
 pub mod Chain
+pub mod Fair
 pub mod Hash
 pub mod HashLaws
 pub mod Linked

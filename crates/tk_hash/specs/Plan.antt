@@ -6,13 +6,16 @@ use Rattle.std.specs.BTreeMap.{BTreeMap, get}
 use Rattle.std.proofs.Math.ListN.{set}
 use Rattle.tk_model.specs.declared.record.Order.TheVariants.{Hash}
 use Rattle.tk_model.specs.declared.record.Pair.{Pair}
+use Rattle.tk_model.specs.declared.record.Group.{Group}
 use Rattle.tk_model.specs.declared.record.Change.{Change}
 use Rattle.tk_model.specs.declared.record.Change.TheVariants as changes
 use Rattle.tk_model.specs.Records.{put}
 use Rattle.tk_block.specs.Blocks.{is_nil}
+use Rattle.tk_disk.specs.Past.{Past}
 use Rattle.tk_disk.specs.Crash.{Torn, Follows, LeavesOnly}
 use Rattle.tk_append.specs.declared.log.GroupLog.{GroupLog}
 use Rattle.tk_append.specs.LogParts.{log_disk, log_head, log_end}
+use Rattle.tk_hash.specs.Fair.{KeepsFair}
 use Rattle.tk_hash.specs.declared.plan.NewHead.{NewHead}
 use Rattle.tk_hash.specs.declared.plan.NewHeads.{NewHeads}
 use Rattle.tk_hash.specs.declared.plan.NewHeads.TheVariants.{Cleared, Renewed}
@@ -30,19 +33,21 @@ abbrev pub AllBelow : (number : ℕ) → List NewHead → Type 0
 AllBelow number [] = Unit {0}
 AllBelow number (n ∷ ns) = (n.bucket < number) × AllBelow number ns
 
--- each is the head of a bucket
-abbrev pub FitHeads : (p : ℕ) → NewHeads → Type 0
-FitHeads p Cleared = Unit {0}
-FitHeads p (Renewed ns) = AllBelow (2 ^ p) ns.items
+-- each is the head of one of so many buckets
+abbrev pub FitHeads : (number : ℕ) → NewHeads → Type 0
+FitHeads number Cleared = Unit {0}
+FitHeads number (Renewed ns) = AllBelow number ns.items
 
 -- what writes of heads leave as it was, and what a crash may leave: what it did before, but for the heads
-pub record Puts {D : Type 0} (image : D → Option (List ℕ)) (may_leave : D → List ℕ → Type 0) (moment : D → ℕ) (left_since : D → ℕ → List ℕ → Type 0) (taken : D → ℕ) (old new : GroupLog D) : Type 0 where
+pub record Puts {D : Type 0} (image : D → Option (List ℕ)) (may_leave : D → List ℕ → Type 0) (past : D → Past) (moment : D → ℕ) (left_since : D → ℕ → List ℕ → Type 0) (left_with : D → ℕ → Past × List ℕ → Type 0) (taken : D → ℕ) (old new : GroupLog D) : Type 0 where
   pub head : log_head new ≡ log_head old
   pub end : log_end new ≡ log_end old
   pub told : is_some (image (log_disk new)) ≡ is_some (image (log_disk old))
   pub taken_same : taken (log_disk new) ≡ taken (log_disk old)
   pub crash : Follows (Torn 64 (8 * 2 ^ (log_head old).p)) (may_leave (log_disk old)) (may_leave (log_disk new))
   pub time : LeavesOnly moment left_since (log_disk old) (log_disk new) (λ c. (d : List ℕ) × may_leave (log_disk old) d × Torn 64 (8 * 2 ^ (log_head old).p) d c)
+  -- heads alone were written
+  pub fair : (groups : List Group) → KeepsFair past moment left_with (log_head old) groups [] (log_disk old) (log_disk new)
 
 -- the newest of these places in a bucket; before any, the place that was found
 abbrev pub placed_in : List NewHead → (bucket found : ℕ) → ℕ

@@ -30,7 +30,7 @@ pub(crate) fn read_bytes<D: Disk>(disk: &mut D, at: u64, into: &mut [u8]) -> Res
     ensures bytes { IfSome (D.image disk.old) (λ f. at + length into.old ≤ length f → OnOk result (into.new ≡ take (length into.old) (drop at f))) }
     ensures cost { D.taken_count disk.new ≤ D.taken_count disk.old + length into.old }
     ensures image { D.image disk.new ≡ D.image disk.old }
-    ensures still { OnlyReads D.may_leave D.moment D.left_since disk.old disk.new }
+    ensures still { OnlyReads D.may_leave D.moment D.left_since D.past D.left_with disk.old disk.new }
     ensures taken { D.taken_count disk.old ≤ D.taken_count disk.new }
     ensures cause { HasCause (D.fault_count disk.old) (D.fault_count disk.new) result }
     ensures answers { OkOrFault result }
@@ -67,7 +67,7 @@ fn read_part<D: Disk>(
         → IfOk result (λ _. take (max from end) buffer.new ≡ take (max from end) (drop place f))) }
     ensures cost { D.taken_count disk.new ≤ D.taken_count disk.old + (end - from) }
     ensures image { D.image disk.new ≡ D.image disk.old }
-    ensures still { OnlyReads D.may_leave D.moment D.left_since disk.old disk.new }
+    ensures still { OnlyReads D.may_leave D.moment D.left_since D.past D.left_with disk.old disk.new }
     ensures taken { D.taken_count disk.old ≤ D.taken_count disk.new }
     ensures cause { HasCause (D.fault_count disk.old) (D.fault_count disk.new) result }
     ensures answers { OkOrFault result }
@@ -95,7 +95,7 @@ pub(crate) fn has_key_at<D: Disk>(
     ensures sees { (x : Placed) (link : ℕ) → IfSome (D.image disk.old) (λ f. StandsAt f x link → x.place ≡ place → IfOk result (Sees key.now x.body link buffer.new)) }
     ensures cost { (x : Placed) (link : ℕ) → IfSome (D.image disk.old) (λ f. StandsAt f x link → x.place ≡ place → D.taken_count disk.new ≤ D.taken_count disk.old + shown x.body (length buffer.old)) }
     ensures image { D.image disk.new ≡ D.image disk.old }
-    ensures still { OnlyReads D.may_leave D.moment D.left_since disk.old disk.new }
+    ensures still { OnlyReads D.may_leave D.moment D.left_since D.past D.left_with disk.old disk.new }
     ensures taken { D.taken_count disk.old ≤ D.taken_count disk.new }
     ensures cause { HasCause (D.fault_count disk.old) (D.fault_count disk.new) result }
     ensures answers { OkOrFault result }
@@ -123,7 +123,7 @@ pub(crate) fn fill_value<D: Disk>(
         → IfOk result (λ _. into.new ≡ take (length into.old) x.body.value)) }
     ensures cost { D.taken_count disk.new ≤ D.taken_count disk.old + (length into.old - (length buffer.now - (40 + key))) }
     ensures image { D.image disk.new ≡ D.image disk.old }
-    ensures still { OnlyReads D.may_leave D.moment D.left_since disk.old disk.new }
+    ensures still { OnlyReads D.may_leave D.moment D.left_since D.past D.left_with disk.old disk.new }
     ensures taken { D.taken_count disk.old ≤ D.taken_count disk.new }
     ensures cause { HasCause (D.fault_count disk.old) (D.fault_count disk.new) result }
     ensures answers { OkOrFault result }

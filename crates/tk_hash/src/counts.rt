@@ -7,8 +7,10 @@ ghost use Rattle.tk_model.specs.declared.record.Order.TheVariants.{Hash};
 ghost use Rattle.tk_model.specs.declared.record.Group.{Group};
 ghost use Rattle.tk_store.specs.Store.{HasCause, NeverFull};
 ghost use Rattle.tk_append.specs.FileText.{IsFile};
+ghost use Rattle.tk_hash.specs.Seek.{KnowsHeads, KnowsKey};
 ghost use Rattle.tk_hash.specs.Plan.{mark_in, marked, told_there, count_after};
 
+use crate::found::FoundKey;
 use crate::links::key_of;
 use crate::seek::has_key;
 use std::alloc::Global;
@@ -47,28 +49,35 @@ fn mark_before(
     marks.put(mark)
 }
 
-/// Whether a key is there, by its mark or else by the file.
+/// Whether a key is there, by its mark, by the last look-up, or else by the file.
 fn was_there<D: Disk>(
     disk: &mut D,
     head: &StaticHead,
+    heads: &[u64],
     buffer: &mut [u8],
     marks: &HashedRecords,
+    found: &FoundKey,
     key: &[u8],
 ) -> Result<bool, StoreError>
     requires p { head.now.p ≤ 24 }
+    requires heads { KnowsHeads (D.image disk.old) head.now heads.now }
+    requires found { KnowsKey (D.image disk.old) head.now found.now }
     requires buffer { 131072 ≤ length buffer.old }
     ensures value { (groups : List Group) → IfSome (D.image disk.old) (λ f. IsFile head.now f groups
         → IfOk result (λ there. there ≡ told_there (find key.now marks.now) (is_some (find key.now (replay Hash groups []))))) }
     ensures buffer { length buffer.new ≡ length buffer.old }
     ensures image { D.image disk.new ≡ D.image disk.old }
-    ensures still { OnlyReads D.may_leave D.moment D.left_since disk.old disk.new }
+    ensures still { OnlyReads D.may_leave D.moment D.left_since D.past D.left_with disk.old disk.new }
     ensures taken { D.taken_count disk.old ≤ D.taken_count disk.new }
     ensures cause { HasCause (D.fault_count disk.old) (D.fault_count disk.new) result }
     ensures never { NeverFull result }
 {
     match marks.get(key) {
         Some(mark) => Ok(!mark.is_empty()),
-        None => has_key(disk, head, buffer, key),
+        None => match found.recall(key) {
+            Some(there) => Ok(there),
+            None => has_key(disk, head, heads, buffer, key),
+        },
     }
 }
 
@@ -100,18 +109,22 @@ pub(crate) fn count_changes<D: Disk>(
     alloc: Global,
     disk: &mut D,
     head: &StaticHead,
+    heads: &[u64],
     count: u64,
     buffer: &mut [u8],
+    found: &FoundKey,
     changes: &[Change],
 ) -> Result<u64, StoreError>
     requires p { head.now.p ≤ 24 }
+    requires heads { KnowsHeads (D.image disk.old) head.now heads.now }
+    requires found { KnowsKey (D.image disk.old) head.now found.now }
     requires buffer { 131072 ≤ length buffer.old }
     requires alone { HasNoClear changes.now }
     ensures count { (groups : List Group) → IfSome (D.image disk.old) (λ f. IsFile head.now f groups → count ≡ length (replay Hash groups [])
         → IfOk result (λ n. n ≡ length (after Hash changes.now (replay Hash groups [])))) }
     ensures buffer { length buffer.new ≡ length buffer.old }
     ensures image { D.image disk.new ≡ D.image disk.old }
-    ensures still { OnlyReads D.may_leave D.moment D.left_since disk.old disk.new }
+    ensures still { OnlyReads D.may_leave D.moment D.left_since D.past D.left_with disk.old disk.new }
     ensures taken { D.taken_count disk.old ≤ D.taken_count disk.new }
     ensures cause { HasCause (D.fault_count disk.old) (D.fault_count disk.new) result }
     ensures never { NeverFull result }
@@ -121,7 +134,7 @@ pub(crate) fn count_changes<D: Disk>(
     for i in 0..changes.len() {
         let change = &changes[i];
         mark_before(alloc, &mut marks, changes, i)?;
-        let there = was_there(disk, head, buffer, &marks, key_of(change))?;
+        let there = was_there(disk, head, heads, buffer, &marks, found, key_of(change))?;
         count = counted(count, change, there)?;
     }
     Ok(count)

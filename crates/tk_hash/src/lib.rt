@@ -3,6 +3,7 @@
 
 mod block;
 mod counts;
+mod found;
 mod links;
 mod open;
 mod plan;
@@ -13,6 +14,8 @@ mod store;
 
 pub use store::HashStore;
 
+#[cfg(test)]
+mod cost_tests;
 #[cfg(test)]
 mod crash_tests;
 #[cfg(test)]

@@ -1,28 +1,19 @@
 //! The links of a group's blocks, and the heads behind it.
-ghost use Rattle.std.specs.Prelude.{◌≡◌, ◌+◌, ◌-◌, ◌*◌, ◌≤◌, ◌<◌, ◌^◌, ◌++◌, ◌∷◌, ℕ, List, [], length, take, map, IfOk, IfSome, OnOk};
+ghost use Rattle.std.specs.Prelude.{◌≡◌, ◌+◌, ◌-◌, ◌≤◌, ◌<◌, ◌^◌, ◌++◌, ◌∷◌, ℕ, List, [], length, slice_index, take, map, IfOk, OnOk};
 ghost use Rattle.std.specs.Ordering.{nat_cmp};
 ghost use Rattle.std.specs.BTreeMap.{IsOrdered};
-ghost use Rattle.tk_disk.specs.Crash.{OnlyReads};
 ghost use Rattle.tk_model.specs.Records.{AllFit, HasNoClear};
-ghost use Rattle.tk_model.specs.declared.record.Group.{Group};
-ghost use Rattle.tk_store.specs.Store.{HasCause, NeverFull};
-ghost use Rattle.tk_block.specs.Number.{u64_in};
 ghost use Rattle.tk_block.specs.Blocks.{group_bodies, key_of as key_in};
-ghost use Rattle.tk_block.specs.Layout.{laid, links_of, end_of, bucket_in};
+ghost use Rattle.tk_block.specs.Layout.{Placed, laid, links_of, end_of, bucket_in};
 ghost use Rattle.tk_append.specs.Chains.{HeadsAre};
-ghost use Rattle.tk_append.specs.Log.{blocks_of};
-ghost use Rattle.tk_append.specs.FileText.{IsFile};
 ghost use Rattle.tk_hash.specs.Plan.{with_new, AllBelow, placed_in, IsNewest};
 
 use crate::plan::NewHead;
-use crate::reading::head_at;
 use std::alloc::Global;
 use std::collections::BTreeMap;
 use tk_append::extent_of_change;
-use tk_block::{LinkList, StaticHead};
-use tk_disk::Disk;
+use tk_block::LinkList;
 use tk_model::{Change, NoMemory, bucket, mix};
-use tk_store::StoreError;
 
 /// The blocks of a group, as far as they are planned: their links, and each as the newest of its bucket.
 #[derive(Drop)]
@@ -57,24 +48,14 @@ fn remember(newest: &mut BTreeMap<u64, u64>, heads: &[NewHead]) -> Result<(), No
     Ok(())
 }
 
-/// The newest block of a bucket: of the new heads, or else the head in the file.
-fn newest_block<D: Disk>(
-    disk: &mut D,
-    newest: &BTreeMap<u64, u64>,
-    bucket: u64,
-) -> Result<u64, StoreError>
-    requires bucket { bucket < 2 ^ 24 }
-    ensures value { (heads : List NewHead) → IsNewest newest.now heads → IfSome (D.image disk.old) (λ f. 64 + 8 * bucket + 8 ≤ length f
-        → IfOk result (λ n. n ≡ placed_in heads bucket (u64_in f (64 + 8 * bucket)))) }
-    ensures image { D.image disk.new ≡ D.image disk.old }
-    ensures still { OnlyReads D.may_leave D.moment D.left_since disk.old disk.new }
-    ensures taken { D.taken_count disk.old ≤ D.taken_count disk.new }
-    ensures cause { HasCause (D.fault_count disk.old) (D.fault_count disk.new) result }
-    ensures never { NeverFull result }
+/// The newest block of a bucket: of the new heads, or else the head.
+fn newest_block(newest: &BTreeMap<u64, u64>, heads: &[u64], bucket: u64) -> u64
+    requires { bucket < length heads.now }
+    ensures { (new : List NewHead) → IsNewest newest.now new → result ≡ placed_in new bucket (slice_index heads.now bucket) }
 {
     match newest.get(&bucket) {
-        Some(place) => Ok(*place),
-        None => head_at(disk, bucket),
+        Some(place) => *place,
+        None => heads[bucket as usize],
     }
 }
 
@@ -132,63 +113,51 @@ impl Chains {
 }
 
 /// Plans a block of this key at a place.
-fn chain_key<D: Disk>(
-    disk: &mut D,
+fn chain_key(
     p: u8,
+    heads: &[u64],
     chains: &mut Chains,
     place: u64,
     key: &[u8],
-) -> Result<(), StoreError>
+) -> Result<(), NoMemory>
     requires p { p ≤ 24 }
+    requires heads { length heads.now ≡ 2 ^ p }
     requires newest { IsNewest chains.old.newest (take (length chains.old.heads.items - 1) chains.old.heads.items) }
     ensures newest { OnOk result (IsNewest chains.new.newest chains.old.heads.items) }
     ensures heads { OnOk result (chains.new.heads.items ≡ chains.old.heads.items ++ record { bucket = bucket_in p key.now; place = place } ∷ []) }
-    ensures links { IfSome (D.image disk.old) (λ f. 64 + 8 * bucket_in p key.now + 8 ≤ length f
-        → OnOk result (chains.new.links ≡ chains.old.links ++ placed_in chains.old.heads.items (bucket_in p key.now) (u64_in f (64 + 8 * bucket_in p key.now)) ∷ [])) }
+    ensures links { OnOk result (chains.new.links ≡ chains.old.links ++ placed_in chains.old.heads.items (bucket_in p key.now) (slice_index heads.now (bucket_in p key.now)) ∷ []) }
     ensures counts { OnOk result (length chains.new.links ≡ length chains.old.links + 1) }
     ensures below { OnOk result (bucket_in p key.now < 2 ^ p) }
-    ensures image { D.image disk.new ≡ D.image disk.old }
-    ensures still { OnlyReads D.may_leave D.moment D.left_since disk.old disk.new }
-    ensures taken { D.taken_count disk.old ≤ D.taken_count disk.new }
-    ensures cause { HasCause (D.fault_count disk.old) (D.fault_count disk.new) result }
-    ensures never { NeverFull result }
 {
     remember(&mut chains.newest, &chains.heads)?;
     let bucket = bucket(mix(key), p);
-    let link = newest_block(disk, &chains.newest, bucket)?;
-    chains.push(link, NewHead { bucket, place })?;
-    Ok(())
+    let link = newest_block(&chains.newest, heads, bucket);
+    chains.push(link, NewHead { bucket, place })
 }
 
-/// Plans the blocks of changes that go to the end of a file.
-pub(crate) fn chain_changes<D: Disk>(
+/// Plans the blocks of changes that go to the end of a file with these heads.
+pub(crate) fn chain_changes(
     alloc: Global,
-    disk: &mut D,
-    head: &StaticHead,
+    p: u8,
+    heads: &[u64],
     end: u64,
     changes: &[Change],
-) -> Result<Chains, StoreError>
-    requires p { head.now.p ≤ 24 }
+) -> Result<Chains, NoMemory>
+    requires p { p ≤ 24 }
+    requires heads { length heads.now ≡ 2 ^ p }
     requires fit { AllFit changes.now }
     requires alone { HasNoClear changes.now }
     requires end { end_of end (group_bodies 0 changes.now) ≤ 2 ^ 40 }
-    ensures links { (number : ℕ) (groups : List Group) → IfSome (D.image disk.old) (λ f. IsFile head.now f groups
-        → IfOk result (λ chains. chains.links ≡ links_of head.now.p (blocks_of head.now groups) (laid end (group_bodies number changes.now)))) }
-    ensures heads { (number : ℕ) (groups : List Group) (heads : List ℕ) → IfSome (D.image disk.old) (λ f. IsFile head.now f groups → HeadsAre head.now.p heads (blocks_of head.now groups)
-        → IfOk result (λ chains. HeadsAre head.now.p (with_new chains.heads.items heads) (blocks_of head.now groups ++ laid end (group_bodies number changes.now)))) }
-    ensures fit { IfOk result (λ chains. AllBelow (2 ^ head.now.p) chains.heads.items) }
+    ensures links { (number : ℕ) (blocks : List Placed) → HeadsAre p heads.now blocks → IfOk result (λ chains. chains.links ≡ links_of p blocks (laid end (group_bodies number changes.now))) }
+    ensures heads { (number : ℕ) (blocks : List Placed) → HeadsAre p heads.now blocks → IfOk result (λ chains. HeadsAre p (with_new chains.heads.items heads.now) (blocks ++ laid end (group_bodies number changes.now))) }
+    ensures fit { IfOk result (λ chains. AllBelow (2 ^ p) chains.heads.items) }
     ensures counts { IfOk result (λ chains. length chains.links ≡ length changes.now) }
     ensures newest { IfOk result (λ chains. IsNewest chains.newest (take (length chains.heads.items - 1) chains.heads.items)) }
-    ensures image { D.image disk.new ≡ D.image disk.old }
-    ensures still { OnlyReads D.may_leave D.moment D.left_since disk.old disk.new }
-    ensures taken { D.taken_count disk.old ≤ D.taken_count disk.new }
-    ensures cause { HasCause (D.fault_count disk.old) (D.fault_count disk.new) result }
-    ensures never { NeverFull result }
 {
     let mut chains = Chains::new(alloc);
     let mut place = end;
     for change in changes {
-        chain_key(disk, head.p, &mut chains, place, key_of(change))?;
+        chain_key(p, heads, &mut chains, place, key_of(change))?;
         place += extent_of_change(change);
     }
     Ok(chains)

@@ -1,7 +1,8 @@
-ghost use Rattle.std.specs.Prelude.{◌≡◌, ◌+◌, ◌≤◌, ◌<◌, ◌^◌, ◌∷◌, [], ℕ, List, length, min, true, false, IfOk, IfErr, IsOk, OnOk, IfSome, Some};
+ghost use Rattle.std.specs.Prelude.{◌≡◌, ◌+◌, ◌≤◌, ◌<◌, ◌^◌, ◌∷◌, [], ℕ, List, length, replicate, min, true, false, IfOk, IfErr, IsOk, OnOk, IfSome, Some};
 ghost use Rattle.std.specs.Option.{is_some, option_map};
 ghost use Rattle.tk_disk.specs.Crash.{Torn, Only, OnlyReads, LeavesOnly};
 ghost use Rattle.tk_disk.specs.Disk.{Rose, HasCause};
+ghost use Rattle.tk_disk.specs.Past.{settled_on};
 ghost use Rattle.tk_model.specs.declared.record.Group.{Group};
 ghost use Rattle.tk_model.specs.declared.error.OpenError.TheVariants as OpenError;
 ghost use Rattle.tk_append.specs.Opening.{first_fault};
@@ -10,6 +11,7 @@ ghost use Rattle.tk_append.specs.LogParts.{log_disk, log_head, log_end, with_clo
 ghost use Rattle.tk_append.specs.Read.{IsOutside};
 ghost use Rattle.tk_block.specs.Text.{is_static};
 
+use crate::found::FoundKey;
 use crate::store::HashStore;
 use std::alloc::Global;
 use tk_append::{CountedLog, GroupLog, read_counted, write_fresh};
@@ -27,6 +29,17 @@ fn buffer_of(alloc: Global) -> Result<Vec<u8>, NoMemory>
     zeros(alloc, BUFFER)
 }
 
+/// The heads of empty buckets, and the buffer of a store.
+fn room_of(alloc: Global, p: u8) -> Result<(Vec<u64>, Vec<u8>), NoMemory>
+    requires { p ≤ 24 }
+    ensures heads { IfOk result (λ room. room.0.items ≡ replicate (2 ^ p) 0) }
+    ensures buffer { IfOk result (λ room. 131072 ≤ length room.1.items) }
+{
+    let mut heads = Vec::new(alloc);
+    heads.resize(1 << p, 0)?;
+    Ok((heads, buffer_of(alloc)?))
+}
+
 /// Writes the file of a header and no records. Where memory ran out, what was written is cut away.
 fn write_empty<D: Disk>(alloc: Global, disk: &mut D, head: &StaticHead) -> Result<(), OpenError>
     requires head { is_static head.now ≡ true }
@@ -39,7 +52,7 @@ fn write_empty<D: Disk>(alloc: Global, disk: &mut D, head: &StaticHead) -> Resul
     ensures fault { IfErr result (λ e. e ≡ OpenError.Fault → Rose (D.fault_count disk.old) (D.fault_count disk.new)) }
     ensures later { D.fault_count disk.old ≤ D.fault_count disk.new }
 {
-    match write_fresh(alloc, disk, head, &PairList::new(alloc)) {
+    match write_fresh(alloc, disk, head, 0, &PairList::new(alloc)) {
         Ok(()) => Ok(()),
         Err(DiskError::Fault) => Err(OpenError::Fault),
         Err(DiskError::NoMemory) => match disk.cut(0) {
@@ -59,7 +72,7 @@ fn begin<D: Disk>(
     ensures head { log_head log.new ≡ log_head log.old }
     ensures end { log_end log.new ≡ log_end log.old }
     ensures reads { writable ≡ false → D.image (log_disk log.new) ≡ D.image (log_disk log.old) }
-    ensures reads_still { writable ≡ false → OnlyReads D.may_leave D.moment D.left_since (log_disk log.old) (log_disk log.new) }
+    ensures reads_still { writable ≡ false → OnlyReads D.may_leave D.moment D.left_since D.past D.left_with (log_disk log.old) (log_disk log.new) }
     ensures same { writable ≡ false → IfOk result (λ c. c ≡ closing) }
     ensures open { writable ≡ true → IfOk result (λ c. c ≡ open_mark) }
     ensures marked { writable ≡ true → OnOk result (D.image (log_disk log.new) ≡ option_map (with_closing open_mark) (D.image (log_disk log.old))) }
@@ -68,6 +81,7 @@ fn begin<D: Disk>(
     ensures done { writable ≡ false → IsOk result }
     ensures durable { writable ≡ true → OnOk result (IfSome (D.image (log_disk log.new)) (λ f. Only f (D.may_leave (log_disk log.new)))) }
     ensures time { LeavesOnly D.moment D.left_since (log_disk log.old) (log_disk log.new) (λ c. (d : List ℕ) × D.may_leave (log_disk log.old) d × Torn 32 32 d c) }
+    ensures settled { writable ≡ true → OnOk result (IfSome (D.image (log_disk log.new)) (λ f. D.past (log_disk log.new) ≡ settled_on f)) }
 {
     if !writable {
         return Ok(closing);
@@ -94,28 +108,33 @@ impl<D: Disk> HashStore<D> {
     ) -> Result<HashStore<D>, Unopened<D>>
         requires shard { shard.index < shard.of }
         ensures exact { IfSome (D.image disk) (λ f. Tells result (first_fault (1 ∷ []) writable shard f)) }
-        ensures opened { IfOk result (λ s. (groups : List Group) × HashStands D.image D.may_leave s (opening groups) [] 0
+        ensures opened { IfOk result (λ s. (groups : List Group) × HashStands D.image D.may_leave D.past s (opening groups) [] 0
             × IfSome (D.image disk) (λ f. f ≡ closed_text (hash_head s) groups (hash_nature s).next)) }
         ensures kind { IfOk result (λ s. (hash_head s).kind ≡ 1) }
         ensures mode { IfOk result (λ s. ((hash_nature s).writable ≡ writable) × ((hash_shown D.image s).closed ≡ false)) }
         ensures limit { IfOk result (λ s. (hash_nature s).limit ≡ min limit (2 ^ 40)) }
         ensures last { IfOk result (λ s. writable ≡ true → (hash_nature s).next ≤ 2 ^ 62) }
         ensures reads { IfOk result (λ s. writable ≡ false → D.image (hash_disk s) ≡ D.image disk) }
-        ensures reads_still { writable ≡ false → IfOk result (λ s. OnlyReads D.may_leave D.moment D.left_since disk (hash_disk s)) }
+        ensures reads_still { writable ≡ false → IfOk result (λ s. OnlyReads D.may_leave D.moment D.left_since D.past D.left_with disk (hash_disk s)) }
         ensures marked { writable ≡ true → IfOk result (λ s. D.image (hash_disk s) ≡ option_map (with_closing open_mark) (D.image disk)) }
         ensures durable { writable ≡ true → IfOk result (λ s. IfSome (D.image (hash_disk s)) (λ f. Only f (D.may_leave (hash_disk s)))) }
         ensures told { IfOk result (λ s. is_some (D.image (hash_disk s)) ≡ is_some (D.image disk)) }
         ensures back { IfErr result (λ u. (u.cause ≡ OpenError.Fault → ⊥) → D.image u.disk ≡ D.image disk) }
         ensures back_reads { writable ≡ false → IfErr result (λ u. D.image u.disk ≡ D.image disk) }
-        ensures back_still { IfErr result (λ u. (u.cause ≡ OpenError.Fault → ⊥) → OnlyReads D.may_leave D.moment D.left_since disk u.disk) }
-        ensures back_reads_still { writable ≡ false → IfErr result (λ u. OnlyReads D.may_leave D.moment D.left_since disk u.disk) }
+        ensures back_still { IfErr result (λ u. (u.cause ≡ OpenError.Fault → ⊥) → OnlyReads D.may_leave D.moment D.left_since D.past D.left_with disk u.disk) }
+        ensures back_reads_still { writable ≡ false → IfErr result (λ u. OnlyReads D.may_leave D.moment D.left_since D.past D.left_with disk u.disk) }
         ensures kept { IfOk result (λ s. D.fault_count (hash_disk s) ≡ D.fault_count disk) }
         ensures fault { IfErr result (λ u. u.cause ≡ OpenError.Fault → Rose (D.fault_count disk) (D.fault_count u.disk)) }
         ensures later { IfErr result (λ u. D.fault_count disk ≤ D.fault_count u.disk) }
         ensures time { IfOk result (λ s. LeavesOnly D.moment D.left_since disk (hash_disk s) (λ c. (d : List ℕ) × D.may_leave disk d × Torn 32 32 d c)) }
         ensures back_time { IfErr result (λ u. LeavesOnly D.moment D.left_since disk u.disk (λ c. (d : List ℕ) × D.may_leave disk d × Torn 32 32 d c)) }
     {
-        let CountedLog { log, count, next } = read_counted(alloc, disk, &[1], writable, shard)?;
+        let CountedLog {
+            log,
+            heads,
+            count,
+            next,
+        } = read_counted(alloc, disk, &[1], writable, shard)?;
         let closing = Closing {
             size: log.end(),
             count,
@@ -130,7 +149,7 @@ impl<D: Disk> HashStore<D> {
                 });
             }
         };
-        HashStore::of_log(alloc, log, closing, writable, limit, buffer)
+        HashStore::of_log(alloc, log, closing, writable, limit, heads, buffer)
     }
 
     /// Writes the fresh hash file of kind 1 to an empty disk, and makes it durable that it is open for writing.
@@ -144,7 +163,7 @@ impl<D: Disk> HashStore<D> {
         requires p { p ≤ 24 }
         requires shard { shard.index < shard.of }
         requires empty { IfSome (D.image disk) (λ f. f ≡ []) }
-        ensures opened { IfOk result (λ s. HashStands D.image D.may_leave s (opening []) [] 0) }
+        ensures opened { IfOk result (λ s. HashStands D.image D.may_leave D.past s (opening []) [] 0) }
         ensures head { IfOk result (λ s. hash_head s ≡ record { kind = 1; version = 1; p = p; order = 0; generation = 0 }) }
         ensures mode { IfOk result (λ s. ((hash_nature s).writable ≡ true) × ((hash_shown D.image s).closed ≡ false)) }
         ensures next { IfOk result (λ s. (hash_nature s).next ≡ 0) }
@@ -165,7 +184,7 @@ impl<D: Disk> HashStore<D> {
             order: 0,
             generation: 0,
         };
-        let Ok(buffer) = buffer_of(alloc) else {
+        let Ok((heads, buffer)) = room_of(alloc, p) else {
             return Err(Unopened {
                 cause: OpenError::NoMemory,
                 disk,
@@ -181,7 +200,7 @@ impl<D: Disk> HashStore<D> {
                     count: 0,
                     next: 0,
                 };
-                HashStore::of_log(alloc, log, closing, true, limit, buffer)
+                HashStore::of_log(alloc, log, closing, true, limit, heads, buffer)
             }
             Err(cause) => Err(Unopened { cause, disk }),
         }
@@ -194,17 +213,18 @@ impl<D: Disk> HashStore<D> {
         closing: Closing,
         writable: bool,
         limit: u64,
+        heads: Vec<u64>,
         buffer: Vec<u8>,
     ) -> Result<HashStore<D>, Unopened<D>>
         requires buffer { 131072 ≤ length buffer.items }
-        requires whole { (groups : List Group) × IsClosedLog D.image log closing groups }
-        ensures stands { (groups : List Group) → IsClosedLog D.image log closing groups → IfOk result (λ s. HashStands D.image D.may_leave s (opening groups) [] 0) }
+        requires whole { (groups : List Group) × IsClosedLog D.image log closing heads.items groups }
+        ensures stands { (groups : List Group) → IsClosedLog D.image log closing heads.items groups → IfOk result (λ s. HashStands D.image D.may_leave D.past s (opening groups) [] 0) }
         ensures head { IfOk result (λ s. hash_head s ≡ log_head log) }
         ensures mode { IfOk result (λ s. ((hash_nature s).writable ≡ writable) × ((hash_shown D.image s).closed ≡ false)) }
         ensures next { IfOk result (λ s. (hash_nature s).next ≡ closing.next) }
         ensures limit { IfOk result (λ s. (hash_nature s).limit ≡ min limit (2 ^ 40)) }
         ensures reads { IfOk result (λ s. writable ≡ false → D.image (hash_disk s) ≡ D.image (log_disk log)) }
-        ensures reads_still { writable ≡ false → IfOk result (λ s. OnlyReads D.may_leave D.moment D.left_since (log_disk log) (hash_disk s)) }
+        ensures reads_still { writable ≡ false → IfOk result (λ s. OnlyReads D.may_leave D.moment D.left_since D.past D.left_with (log_disk log) (hash_disk s)) }
         ensures marked { writable ≡ true → IfOk result (λ s. D.image (hash_disk s) ≡ option_map (with_closing open_mark) (D.image (log_disk log))) }
         ensures durable { writable ≡ true → IfOk result (λ s. IfSome (D.image (hash_disk s)) (λ f. Only f (D.may_leave (hash_disk s)))) }
         ensures told { IfOk result (λ s. is_some (D.image (hash_disk s)) ≡ is_some (D.image (log_disk log))) }
@@ -229,7 +249,9 @@ impl<D: Disk> HashStore<D> {
                 writable,
                 closed: false,
                 limit,
+                heads,
                 buffer,
+                found: FoundKey::new(alloc),
                 shelf: None,
                 staged: None,
             }),

@@ -10,27 +10,9 @@ ghost use Rattle.tk_hash.specs.Shelf.{StandsIn};
 use crate::block::read_bytes;
 use std::alloc::Global;
 use tk_block::{u16_at, u32_at, u64_at};
-use tk_buckets::number_at;
 use tk_disk::{Disk, zeros};
 use tk_model::{Bytes, Change, NoMemory, Pair};
 use tk_store::StoreError;
-
-/// The head of a bucket in the file.
-pub(crate) fn head_at<D: Disk>(disk: &mut D, bucket: u64) -> Result<u64, StoreError>
-    requires bucket { bucket < 2 ^ 24 }
-    ensures value { IfSome (D.image disk.old) (λ f. 64 + 8 * bucket + 8 ≤ length f → IfOk result (λ n. n ≡ u64_in f (64 + 8 * bucket))) }
-    ensures cost { D.taken_count disk.new ≤ D.taken_count disk.old + 8 }
-    ensures image { D.image disk.new ≡ D.image disk.old }
-    ensures still { OnlyReads D.may_leave D.moment D.left_since disk.old disk.new }
-    ensures taken { D.taken_count disk.old ≤ D.taken_count disk.new }
-    ensures cause { HasCause (D.fault_count disk.old) (D.fault_count disk.new) result }
-    ensures answers { OkOrFault result }
-{
-    match number_at(disk, 64 + 8 * bucket) {
-        Ok(place) => Ok(place),
-        Err(_) => Err(StoreError::Fault),
-    }
-}
 
 /// So many bytes from a place on.
 fn bytes_at<D: Disk>(
@@ -42,7 +24,7 @@ fn bytes_at<D: Disk>(
     ensures bytes { IfSome (D.image disk.old) (λ f. at + len ≤ length f → IfOk result (λ b. b.items ≡ take len (drop at f))) }
     ensures long { IfOk result (λ b. length b.items ≡ len) }
     ensures image { D.image disk.new ≡ D.image disk.old }
-    ensures still { OnlyReads D.may_leave D.moment D.left_since disk.old disk.new }
+    ensures still { OnlyReads D.may_leave D.moment D.left_since D.past D.left_with disk.old disk.new }
     ensures taken { D.taken_count disk.old ≤ D.taken_count disk.new }
     ensures cause { HasCause (D.fault_count disk.old) (D.fault_count disk.new) result }
     ensures never { NeverFull result }
@@ -65,7 +47,7 @@ fn front_at<D: Disk>(disk: &mut D, place: u64) -> Result<Front, StoreError>
     ensures says { (x : Placed) → IfSome (D.image disk.old) (λ f. StandsIn f x → place ≡ x.place
         → IfOk result (λ front. (front.kind ≡ x.body.kind) × (front.key ≡ length x.body.key) × (front.value ≡ length x.body.value))) }
     ensures image { D.image disk.new ≡ D.image disk.old }
-    ensures still { OnlyReads D.may_leave D.moment D.left_since disk.old disk.new }
+    ensures still { OnlyReads D.may_leave D.moment D.left_since D.past D.left_with disk.old disk.new }
     ensures taken { D.taken_count disk.old ≤ D.taken_count disk.new }
     ensures cause { HasCause (D.fault_count disk.old) (D.fault_count disk.new) result }
     ensures never { NeverFull result }
@@ -102,7 +84,7 @@ pub(crate) fn change_at<D: Disk>(
 ) -> Result<Change, StoreError>
     ensures says { (x : Placed) → IfSome (D.image disk.old) (λ f. StandsIn f x → place ≡ x.place → IfOk result (λ c. c ≡ change_in x.body)) }
     ensures image { D.image disk.new ≡ D.image disk.old }
-    ensures still { OnlyReads D.may_leave D.moment D.left_since disk.old disk.new }
+    ensures still { OnlyReads D.may_leave D.moment D.left_since D.past D.left_with disk.old disk.new }
     ensures taken { D.taken_count disk.old ≤ D.taken_count disk.new }
     ensures cause { HasCause (D.fault_count disk.old) (D.fault_count disk.new) result }
     ensures never { NeverFull result }
@@ -156,7 +138,7 @@ fn empty_from<D: Disk>(
     ensures empty { IfSome (D.image disk.old) (λ f. 64 + 8 * (bucket + count) ≤ length f
         → IfOk result (λ n. (i : ℕ) → bucket ≤ i → i < bucket + n → u64_in f (64 + 8 * i) ≡ 0)) }
     ensures image { D.image disk.new ≡ D.image disk.old }
-    ensures still { OnlyReads D.may_leave D.moment D.left_since disk.old disk.new }
+    ensures still { OnlyReads D.may_leave D.moment D.left_since D.past D.left_with disk.old disk.new }
     ensures taken { D.taken_count disk.old ≤ D.taken_count disk.new }
     ensures cause { HasCause (D.fault_count disk.old) (D.fault_count disk.new) result }
     ensures never { NeverFull result }
@@ -178,7 +160,7 @@ fn filled_from<D: Disk>(
     ensures empty { IfSome (D.image disk.old) (λ f. 64 + 8 * (bucket + count) ≤ length f
         → IfOk result (λ n. (i : ℕ) → bucket + n ≤ i → i < bucket + count → u64_in f (64 + 8 * i) ≡ 0)) }
     ensures image { D.image disk.new ≡ D.image disk.old }
-    ensures still { OnlyReads D.may_leave D.moment D.left_since disk.old disk.new }
+    ensures still { OnlyReads D.may_leave D.moment D.left_since D.past D.left_with disk.old disk.new }
     ensures taken { D.taken_count disk.old ≤ D.taken_count disk.new }
     ensures cause { HasCause (D.fault_count disk.old) (D.fault_count disk.new) result }
     ensures never { NeverFull result }
@@ -195,7 +177,7 @@ pub(crate) fn next_filled<D: Disk>(disk: &mut D, from: u64, end: u64) -> Result<
     ensures most { IfOk result (λ n. n ≤ end) }
     ensures empty { IfSome (D.image disk.old) (λ f. 64 + 8 * end ≤ length f → IfOk result (λ n. (i : ℕ) → from ≤ i → i < n → u64_in f (64 + 8 * i) ≡ 0)) }
     ensures image { D.image disk.new ≡ D.image disk.old }
-    ensures still { OnlyReads D.may_leave D.moment D.left_since disk.old disk.new }
+    ensures still { OnlyReads D.may_leave D.moment D.left_since D.past D.left_with disk.old disk.new }
     ensures taken { D.taken_count disk.old ≤ D.taken_count disk.new }
     ensures cause { HasCause (D.fault_count disk.old) (D.fault_count disk.new) result }
     ensures never { NeverFull result }
@@ -221,7 +203,7 @@ pub(crate) fn filled_below<D: Disk>(disk: &mut D, end: u64) -> Result<u64, Store
     ensures most { IfOk result (λ n. n ≤ end) }
     ensures empty { IfSome (D.image disk.old) (λ f. 64 + 8 * end ≤ length f → IfOk result (λ n. (i : ℕ) → n ≤ i → i < end → u64_in f (64 + 8 * i) ≡ 0)) }
     ensures image { D.image disk.new ≡ D.image disk.old }
-    ensures still { OnlyReads D.may_leave D.moment D.left_since disk.old disk.new }
+    ensures still { OnlyReads D.may_leave D.moment D.left_since D.past D.left_with disk.old disk.new }
     ensures taken { D.taken_count disk.old ≤ D.taken_count disk.new }
     ensures cause { HasCause (D.fault_count disk.old) (D.fault_count disk.new) result }
     ensures never { NeverFull result }

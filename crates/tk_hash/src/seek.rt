@@ -1,5 +1,5 @@
 //! Look-ups along the chain of a bucket.
-ghost use Rattle.std.specs.Prelude.{◌≡◌, ◌+◌, ◌-◌, ◌<◌, ◌≤◌, ℕ, List, [], length, min, IfOk, IfSome};
+ghost use Rattle.std.specs.Prelude.{◌≡◌, ◌+◌, ◌-◌, ◌<◌, ◌≤◌, ◌^◌, ℕ, List, [], length, slice_index, min, IfOk, IfSome};
 ghost use Rattle.std.specs.Option.{is_some};
 ghost use Rattle.tk_disk.specs.Crash.{OnlyReads};
 ghost use Rattle.tk_model.specs.Records.{find, replay};
@@ -8,11 +8,11 @@ ghost use Rattle.tk_model.specs.declared.record.Group.{Group};
 ghost use Rattle.tk_store.specs.Store.{HasCause, NeverFull, OkOrFault, Gives, GivesInto};
 ghost use Rattle.tk_block.specs.Layout.{Placed, bucket_in};
 ghost use Rattle.tk_append.specs.FileText.{IsFile};
-ghost use Rattle.tk_hash.specs.Chain.{chain_of, cost_in, extents};
+ghost use Rattle.tk_hash.specs.Chain.{cost_in, extents};
+ghost use Rattle.tk_hash.specs.Seek.{KnowsHeads};
 ghost use Rattle.tk_hash.specs.Linked.{IsChained, Found, Sought, StandsAt, Shows};
 
 use crate::block::{FRONT, KEY, KIND, LINK, VALUE_LEN, fill_value, has_key_at};
-use crate::reading::head_at;
 use std::alloc::Global;
 use tk_block::{StaticHead, u32_at, u64_at};
 use tk_disk::{Disk, zeros};
@@ -30,17 +30,13 @@ pub(crate) struct ValueAt {
 }
 
 /// The place of the first block of the key's bucket.
-fn first_place<D: Disk>(disk: &mut D, head: &StaticHead, key: &[u8]) -> Result<u64, StoreError>
+fn first_place(head: &StaticHead, heads: &[u64], key: &[u8]) -> u64
     requires p { head.now.p ≤ 24 }
-    ensures chain { (groups : List Group) → IfSome (D.image disk.old) (λ f. IsFile head.now f groups → IfOk result (λ n. IsChained f n (chain_of head.now (bucket_in head.now.p key.now) groups))) }
-    ensures cost { D.taken_count disk.new ≤ D.taken_count disk.old + 8 }
-    ensures image { D.image disk.new ≡ D.image disk.old }
-    ensures still { OnlyReads D.may_leave D.moment D.left_since disk.old disk.new }
-    ensures taken { D.taken_count disk.old ≤ D.taken_count disk.new }
-    ensures cause { HasCause (D.fault_count disk.old) (D.fault_count disk.new) result }
-    ensures answers { OkOrFault result }
+    requires heads { length heads.now ≡ 2 ^ head.now.p }
+    ensures below { bucket_in head.now.p key.now < 2 ^ head.now.p }
+    ensures value { result ≡ slice_index heads.now (bucket_in head.now.p key.now) }
 {
-    head_at(disk, bucket(mix(key), head.p))
+    heads[bucket(mix(key), head.p) as usize]
 }
 
 /// The first block with the key in the chain that begins at a place. The buffer then has its front.
@@ -56,7 +52,7 @@ fn find_block<D: Disk>(
     ensures found { (xs : List Placed) → IfSome (D.image disk.old) (λ f. IsChained f first xs → IfOk result (Found key.now xs f buffer.new (D.taken_count disk.old) (D.taken_count disk.new))) }
     ensures cost { (xs : List Placed) → IfSome (D.image disk.old) (λ f. IsChained f first xs → D.taken_count disk.new ≤ D.taken_count disk.old + extents xs) }
     ensures image { D.image disk.new ≡ D.image disk.old }
-    ensures still { OnlyReads D.may_leave D.moment D.left_since disk.old disk.new }
+    ensures still { OnlyReads D.may_leave D.moment D.left_since D.past D.left_with disk.old disk.new }
     ensures taken { D.taken_count disk.old ≤ D.taken_count disk.new }
     ensures cause { HasCause (D.fault_count disk.old) (D.fault_count disk.new) result }
     ensures answers { OkOrFault result }
@@ -79,22 +75,24 @@ fn find_block<D: Disk>(
 fn seek_value<D: Disk>(
     disk: &mut D,
     head: &StaticHead,
+    heads: &[u64],
     buffer: &mut [u8],
     key: &[u8],
 ) -> Result<Option<ValueAt>, StoreError>
     requires p { head.now.p ≤ 24 }
+    requires heads { KnowsHeads (D.image disk.old) head.now heads.now }
     requires front { 48 ≤ length buffer.old }
     requires key { min 65575 (40 + length key.now) ≤ length buffer.old }
     ensures short { IfOk result (λ at. IfSome at (λ _. length key.now < 65536)) }
     ensures value { (groups : List Group) → IfSome (D.image disk.old) (λ f. IsFile head.now f groups → IfOk result (Sought key.now (find key.now (replay Hash groups [])) f buffer.new (D.taken_count disk.old) (D.taken_count disk.new) (cost_in head.now groups key.now))) }
     ensures cost { (groups : List Group) → IfSome (D.image disk.old) (λ f. IsFile head.now f groups → D.taken_count disk.new ≤ D.taken_count disk.old + cost_in head.now groups key.now) }
     ensures image { D.image disk.new ≡ D.image disk.old }
-    ensures still { OnlyReads D.may_leave D.moment D.left_since disk.old disk.new }
+    ensures still { OnlyReads D.may_leave D.moment D.left_since D.past D.left_with disk.old disk.new }
     ensures taken { D.taken_count disk.old ≤ D.taken_count disk.new }
     ensures cause { HasCause (D.fault_count disk.old) (D.fault_count disk.new) result }
     ensures answers { OkOrFault result }
 {
-    let first = first_place(disk, head, key)?;
+    let first = first_place(head, heads, key);
     let Some(place) = find_block(disk, first, buffer, key)? else {
         return Ok(None);
     };
@@ -132,7 +130,7 @@ fn give_value<D: Disk>(
         → IfOk result (λ _. out.new ≡ x.body.value)) }
     ensures cost { D.taken_count disk.new ≤ D.taken_count disk.old + (value.len - (length buffer.now - (40 + key))) }
     ensures image { D.image disk.new ≡ D.image disk.old }
-    ensures still { OnlyReads D.may_leave D.moment D.left_since disk.old disk.new }
+    ensures still { OnlyReads D.may_leave D.moment D.left_since D.past D.left_with disk.old disk.new }
     ensures taken { D.taken_count disk.old ≤ D.taken_count disk.new }
     ensures cause { HasCause (D.fault_count disk.old) (D.fault_count disk.new) result }
     ensures never { NeverFull result }
@@ -155,22 +153,24 @@ pub(crate) fn get_value<D: Disk>(
     alloc: Global,
     disk: &mut D,
     head: &StaticHead,
+    heads: &[u64],
     buffer: &mut [u8],
     key: &[u8],
     out: &mut Bytes,
 ) -> Result<bool, StoreError>
     requires p { head.now.p ≤ 24 }
+    requires heads { KnowsHeads (D.image disk.old) head.now heads.now }
     requires buffer { 131072 ≤ length buffer.old }
     ensures value { (groups : List Group) → IfSome (D.image disk.old) (λ f. IsFile head.now f groups → IfOk result (Gives (find key.now (replay Hash groups [])) out.old out.new)) }
     ensures cost { (groups : List Group) → IfSome (D.image disk.old) (λ f. IsFile head.now f groups → D.taken_count disk.new ≤ D.taken_count disk.old + cost_in head.now groups key.now) }
     ensures buffer { length buffer.new ≡ length buffer.old }
     ensures image { D.image disk.new ≡ D.image disk.old }
-    ensures still { OnlyReads D.may_leave D.moment D.left_since disk.old disk.new }
+    ensures still { OnlyReads D.may_leave D.moment D.left_since D.past D.left_with disk.old disk.new }
     ensures taken { D.taken_count disk.old ≤ D.taken_count disk.new }
     ensures cause { HasCause (D.fault_count disk.old) (D.fault_count disk.new) result }
     ensures never { NeverFull result }
 {
-    let Some(value) = seek_value(disk, head, buffer, key)? else {
+    let Some(value) = seek_value(disk, head, heads, buffer, key)? else {
         return Ok(false);
     };
     give_value(alloc, disk, value, buffer, key.len(), out)?;
@@ -181,17 +181,19 @@ pub(crate) fn get_value<D: Disk>(
 pub(crate) fn get_value_into<D: Disk>(
     disk: &mut D,
     head: &StaticHead,
+    heads: &[u64],
     buffer: &mut [u8],
     key: &[u8],
     into: &mut [u8],
 ) -> Result<Option<u32>, StoreError>
     requires p { head.now.p ≤ 24 }
+    requires heads { KnowsHeads (D.image disk.old) head.now heads.now }
     requires buffer { 131072 ≤ length buffer.old }
     ensures value { (groups : List Group) → IfSome (D.image disk.old) (λ f. IsFile head.now f groups → IfOk result (GivesInto (find key.now (replay Hash groups [])) into.old into.new)) }
     ensures cost { (groups : List Group) → IfSome (D.image disk.old) (λ f. IsFile head.now f groups → D.taken_count disk.new ≤ D.taken_count disk.old + cost_in head.now groups key.now) }
     ensures buffer { length buffer.new ≡ length buffer.old }
     ensures image { D.image disk.new ≡ D.image disk.old }
-    ensures still { OnlyReads D.may_leave D.moment D.left_since disk.old disk.new }
+    ensures still { OnlyReads D.may_leave D.moment D.left_since D.past D.left_with disk.old disk.new }
     ensures taken { D.taken_count disk.old ≤ D.taken_count disk.new }
     ensures cause { HasCause (D.fault_count disk.old) (D.fault_count disk.new) result }
     ensures never { NeverFull result }
@@ -199,7 +201,7 @@ pub(crate) fn get_value_into<D: Disk>(
 {
     let end = window(buffer.len(), key.len(), into.len());
     let front = &mut buffer[..end];
-    let Some(value) = seek_value(disk, head, front, key)? else {
+    let Some(value) = seek_value(disk, head, heads, front, key)? else {
         return Ok(None);
     };
     let count = into.len().min(value.len as usize);
@@ -211,21 +213,23 @@ pub(crate) fn get_value_into<D: Disk>(
 pub(crate) fn has_key<D: Disk>(
     disk: &mut D,
     head: &StaticHead,
+    heads: &[u64],
     buffer: &mut [u8],
     key: &[u8],
 ) -> Result<bool, StoreError>
     requires p { head.now.p ≤ 24 }
+    requires heads { KnowsHeads (D.image disk.old) head.now heads.now }
     requires buffer { 131072 ≤ length buffer.old }
     ensures value { (groups : List Group) → IfSome (D.image disk.old) (λ f. IsFile head.now f groups → IfOk result (λ found. found ≡ is_some (find key.now (replay Hash groups [])))) }
     ensures buffer { length buffer.new ≡ length buffer.old }
     ensures image { D.image disk.new ≡ D.image disk.old }
-    ensures still { OnlyReads D.may_leave D.moment D.left_since disk.old disk.new }
+    ensures still { OnlyReads D.may_leave D.moment D.left_since D.past D.left_with disk.old disk.new }
     ensures taken { D.taken_count disk.old ≤ D.taken_count disk.new }
     ensures cause { HasCause (D.fault_count disk.old) (D.fault_count disk.new) result }
     ensures never { NeverFull result }
     ensures answers { OkOrFault result }
 {
     let end = window(buffer.len(), key.len(), 0);
-    let found = seek_value(disk, head, &mut buffer[..end], key)?;
+    let found = seek_value(disk, head, heads, &mut buffer[..end], key)?;
     Ok(found.is_some())
 }

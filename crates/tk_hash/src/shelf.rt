@@ -52,7 +52,7 @@ fn read_blocks<D: Disk>(
     requires { records.old ≡ [] }
     ensures value { (blocks : List Placed) → IfSome (D.image disk.old) (λ f. AllStand f blocks → places.now ≡ places_in blocks → OnOk result (records.new ≡ left_by blocks)) }
     ensures image { D.image disk.new ≡ D.image disk.old }
-    ensures still { OnlyReads D.may_leave D.moment D.left_since disk.old disk.new }
+    ensures still { OnlyReads D.may_leave D.moment D.left_since D.past D.left_with disk.old disk.new }
     ensures taken { D.taken_count disk.old ≤ D.taken_count disk.new }
     ensures cause { HasCause (D.fault_count disk.old) (D.fault_count disk.new) result }
     ensures never { NeverFull result }
@@ -75,7 +75,7 @@ fn read_bucket<D: Disk>(
     requires bucket { bucket < 2 ^ head.now.p }
     ensures value { (groups : List Group) → IfSome (D.image disk.old) (λ f. IsFile head.now f groups → IfOk result (λ r. r ≡ in_bucket head.now.p bucket (replay Hash groups []))) }
     ensures image { D.image disk.new ≡ D.image disk.old }
-    ensures still { OnlyReads D.may_leave D.moment D.left_since disk.old disk.new }
+    ensures still { OnlyReads D.may_leave D.moment D.left_since D.past D.left_with disk.old disk.new }
     ensures taken { D.taken_count disk.old ≤ D.taken_count disk.new }
     ensures cause { HasCause (D.fault_count disk.old) (D.fault_count disk.new) result }
     ensures never { NeverFull result }
@@ -109,7 +109,7 @@ fn lay<D: Disk>(
     ensures value { (groups : List Group) → IfSome (D.image disk.old) (λ f. IsFile head.now f groups → IsShelf head.now groups shelf.old → OnOk result (HasBucket head.now groups bucket shelf.new)) }
     ensures shelf { (groups : List Group) → IfSome (D.image disk.old) (λ f. IsFile head.now f groups → IsShelf head.now groups shelf.old → IsShelf head.now groups shelf.new) }
     ensures image { D.image disk.new ≡ D.image disk.old }
-    ensures still { OnlyReads D.may_leave D.moment D.left_since disk.old disk.new }
+    ensures still { OnlyReads D.may_leave D.moment D.left_since D.past D.left_with disk.old disk.new }
     ensures taken { D.taken_count disk.old ≤ D.taken_count disk.new }
     ensures cause { HasCause (D.fault_count disk.old) (D.fault_count disk.new) result }
     ensures never { NeverFull result }
@@ -169,7 +169,7 @@ fn first_in<D: Disk>(
         → IfOk result (λ found. found ≡ first_within Hash bound.now (in_bucket head.now.p bucket (replay Hash groups [])))) }
     ensures shelf { (groups : List Group) → IfSome (D.image disk.old) (λ f. IsFile head.now f groups → IsShelf head.now groups shelf.old → IsShelf head.now groups shelf.new) }
     ensures image { D.image disk.new ≡ D.image disk.old }
-    ensures still { OnlyReads D.may_leave D.moment D.left_since disk.old disk.new }
+    ensures still { OnlyReads D.may_leave D.moment D.left_since D.past D.left_with disk.old disk.new }
     ensures taken { D.taken_count disk.old ≤ D.taken_count disk.new }
     ensures cause { HasCause (D.fault_count disk.old) (D.fault_count disk.new) result }
     ensures never { NeverFull result }
@@ -193,7 +193,7 @@ fn last_in<D: Disk>(
         → IfOk result (λ found. found ≡ last_within Hash bound.now (in_bucket head.now.p bucket (replay Hash groups [])))) }
     ensures shelf { (groups : List Group) → IfSome (D.image disk.old) (λ f. IsFile head.now f groups → IsShelf head.now groups shelf.old → IsShelf head.now groups shelf.new) }
     ensures image { D.image disk.new ≡ D.image disk.old }
-    ensures still { OnlyReads D.may_leave D.moment D.left_since disk.old disk.new }
+    ensures still { OnlyReads D.may_leave D.moment D.left_since D.past D.left_with disk.old disk.new }
     ensures taken { D.taken_count disk.old ≤ D.taken_count disk.new }
     ensures cause { HasCause (D.fault_count disk.old) (D.fault_count disk.new) result }
     ensures never { NeverFull result }
@@ -215,7 +215,7 @@ pub(crate) fn first_record<D: Disk>(
         → IfOk result (λ found. found ≡ first_within Hash bound.now (replay Hash groups []))) }
     ensures shelf { (groups : List Group) → IfSome (D.image disk.old) (λ f. IsFile head.now f groups → IsShelf head.now groups shelf.old → IsShelf head.now groups shelf.new) }
     ensures image { D.image disk.new ≡ D.image disk.old }
-    ensures still { OnlyReads D.may_leave D.moment D.left_since disk.old disk.new }
+    ensures still { OnlyReads D.may_leave D.moment D.left_since D.past D.left_with disk.old disk.new }
     ensures taken { D.taken_count disk.old ≤ D.taken_count disk.new }
     ensures cause { HasCause (D.fault_count disk.old) (D.fault_count disk.new) result }
     ensures never { NeverFull result }
@@ -245,7 +245,7 @@ pub(crate) fn last_record<D: Disk>(
         → IfOk result (λ found. found ≡ last_within Hash bound.now (replay Hash groups []))) }
     ensures shelf { (groups : List Group) → IfSome (D.image disk.old) (λ f. IsFile head.now f groups → IsShelf head.now groups shelf.old → IsShelf head.now groups shelf.new) }
     ensures image { D.image disk.new ≡ D.image disk.old }
-    ensures still { OnlyReads D.may_leave D.moment D.left_since disk.old disk.new }
+    ensures still { OnlyReads D.may_leave D.moment D.left_since D.past D.left_with disk.old disk.new }
     ensures taken { D.taken_count disk.old ≤ D.taken_count disk.new }
     ensures cause { HasCause (D.fault_count disk.old) (D.fault_count disk.new) result }
     ensures never { NeverFull result }

@@ -45,7 +45,7 @@ fn disk_of(alloc: Global, head: &StaticHead) -> Result<MemDisk, Fail>
     add(alloc, &mut pairs, b"c", b"")?;
     add(alloc, &mut pairs, b"d", b"4")?;
     let mut disk = empty_disk(alloc)?;
-    write_fresh(alloc, &mut disk, head, &pairs)?;
+    write_fresh(alloc, &mut disk, head, 0, &pairs)?;
     Ok(disk)
 }
 

@@ -1,13 +1,14 @@
-ghost use Rattle.std.specs.Prelude.{◌≡◌, ◌≢◌, ◌≤◌, ◌<◌, ◌+◌, ◌-◌, ◌^◌, ◌++◌, ◌∷◌, ◌==◌, ◌&&◌, not, nat_lt, ℕ, List, [], length, take, Option, IfOk, IfSome, OnOk, OnErr, Some, Ok, Err, true, false, if◌then◌else◌, sum_by};
+ghost use Rattle.std.specs.Prelude.{◌≡◌, ◌≢◌, ◌≤◌, ◌<◌, ◌+◌, ◌-◌, ◌^◌, ◌++◌, ◌∷◌, ℕ, List, [], length, take, Option, IfOk, IfSome, OnOk, OnErr, Some, None, Ok, Err, true, false, if◌then◌else◌, sum_by};
 ghost use Rattle.std.specs.Option.{is_some};
 ghost use Rattle.tk_disk.specs.Crash.{Only};
 ghost use Rattle.tk_model.specs.Records.{find, AllFit, IsClearAlone};
 ghost use Rattle.tk_model.specs.declared.record.Group.{Group};
 ghost use Rattle.tk_model.specs.declared.record.Change.{Change as Changed};
-ghost use Rattle.tk_store.specs.Store.{First, made, extent_of as change_extent, HasCause, NeverFull, OkOrFault, IsWhole, GivesInto, Keeps, KeepsSince, LeavesSafe};
+ghost use Rattle.tk_store.specs.Store.{First, made, ended_by, extent_of as change_extent, HasCause, NeverFull, OkOrFault, UnlessFault, OnNoMemory, IsWhole, GivesInto, Keeps, KeepsSince, LeavesSafe, OnlyLooks, GoesOn};
 ghost use Rattle.tk_append.specs.Log.{closed_text};
 
-use crate::plan::{NewHeads, plan_changes, put_heads};
+use crate::found::FoundKey;
+use crate::plan::{NewHeads, plan_changes, put_heads, set_heads};
 use crate::seek::{get_value, get_value_into};
 use crate::shelf::{Shelf, first_record, last_record};
 use std::alloc::Global;
@@ -15,7 +16,7 @@ use tk_append::{GroupLog, extent_of_change};
 use tk_block::Closing;
 use tk_disk::{Disk, DiskError};
 use tk_model::{Bound, Bytes, Change, ChangeList, NoMemory, Order, Pair};
-use tk_store::{SeqStore, StoreError};
+use tk_store::{SeqStore, StoreError, is_over};
 
 /// The longest file.
 const LIMIT: u64 = 1 << 40;
@@ -40,8 +41,11 @@ pub struct HashStore<D: Disk> {
     pub(crate) writable: bool,
     pub(crate) closed: bool,
     pub(crate) limit: u64,
+    /// The newest block of each bucket.
+    pub(crate) heads: Vec<u64>,
     /// Room for a block's front, so that look-ups take no memory.
     pub(crate) buffer: Vec<u8>,
+    pub(crate) found: FoundKey,
     pub(crate) shelf: Option<Shelf>,
     pub(crate) staged: Option<Staged>,
 }
@@ -61,16 +65,6 @@ fn need_of(changes: &[Change]) -> Result<u64, NoMemory>
     Ok(need)
 }
 
-/// The group would pass the limit.
-fn is_over(size: u64, need: u64, limit: u64, empty: bool) -> bool
-    ensures { result ≡ (nat_lt limit (size + need) && not (empty && (need == 0))) }
-{
-    if empty && need == 0 {
-        return false;
-    }
-    limit < size || limit - size < need
-}
-
 /// A disk's answer as a store's: its only error is a fault.
 fn told<T>(answer: Result<T, DiskError>) -> Result<T, StoreError>
     ensures ok { IfOk answer (λ v. result ≡ Ok v) }
@@ -83,18 +77,19 @@ fn told<T>(answer: Result<T, DiskError>) -> Result<T, StoreError>
 }
 
 impl<D: Disk> HashStore<D> {
-    ghost use Rattle.tk_hash.specs.Hash.{hash_disk, hash_head, hash_nature, hash_shown, groups_held, IsStaged, HashStands, HashStood, KeepsGroups, opening};
+    ghost use Rattle.tk_hash.specs.Hash.{hash_disk, hash_head, hash_closing, hash_nature, hash_shown, groups_held, IsStaged, HashStands, HashStood, KeepsGroups, opening};
+    ghost use Rattle.tk_hash.specs.Fair.{KeepsFair};
 
     /// Makes a group of these changes ready.
     fn stage(&mut self, changes: &ChangeList) -> Result<Staged, StoreError>
-        requires whole { IsWhole (HashStands D.image D.may_leave) self.old }
+        requires whole { IsWhole (HashStands D.image D.may_leave D.past) self.old }
         requires some { changes.now ≢ [] }
         requires fit { AllFit changes.now }
         requires alone { IsClearAlone changes.now }
         requires end { (hash_shown D.image self.old).size + sum_by (change_extent 1) changes.now ≤ 2 ^ 40 }
         ensures staged { IfOk result (IsStaged D.image self.new changes.now) }
-        ensures stands { Keeps (HashStands D.image D.may_leave) self.old self.new }
-        ensures since { KeepsSince (HashStood D.image D.may_leave D.moment D.left_since) self.old self.new }
+        ensures stands { Keeps (HashStands D.image D.may_leave D.past) self.old self.new }
+        ensures since { KeepsSince (HashStood D.image D.may_leave D.past D.moment D.left_since D.left_with) self.old self.new }
         ensures nature { hash_nature self.new ≡ hash_nature self.old }
         ensures shown { hash_shown D.image self.new ≡ hash_shown D.image self.old }
         ensures time { D.moment (hash_disk self.old) ≤ D.moment (hash_disk self.new) }
@@ -108,9 +103,11 @@ impl<D: Disk> HashStore<D> {
             self.alloc,
             self.log.disk(),
             &head,
+            &self.heads,
             end,
             self.count,
             &mut self.buffer,
+            &self.found,
             changes,
         )?;
         self.log.prepare(changes, &plan.links)?;
@@ -122,15 +119,19 @@ impl<D: Disk> HashStore<D> {
 
     /// Writes the group that was staged, under this number, and then the heads.
     fn put_staged(&mut self, number: u64, staged: Staged) -> Result<(), StoreError>
-        requires whole { IsWhole (HashStands D.image D.may_leave) self.old }
+        requires whole { IsWhole (HashStands D.image D.may_leave D.past) self.old }
         requires staged { (changes : List Changed) × IsStaged D.image self.old changes staged }
         requires writable { (hash_nature self.old).writable ≡ true }
         requires number { (hash_shown D.image self.old).floor ≤ number }
         ensures stands { (changes : List Changed) → IsStaged D.image self.old changes staged → AllFit changes → IsClearAlone changes
-            → (first : First) (since : List Group) (hard : ℕ) → HashStands D.image D.may_leave self.old first since hard
-            → OnOk result (HashStands D.image D.may_leave self.new first (since ++ record { number = number; changes = changes } ∷ []) hard) }
-        ensures kept { (first : First) (since : List Group) (hard : ℕ) → HashStands D.image D.may_leave self.old first since hard
+            → (first : First) (since : List Group) (hard : ℕ) → HashStands D.image D.may_leave D.past self.old first since hard
+            → OnOk result (HashStands D.image D.may_leave D.past self.new first (since ++ record { number = number; changes = changes } ∷ []) hard) }
+        ensures kept { (first : First) (since : List Group) (hard : ℕ) → HashStands D.image D.may_leave D.past self.old first since hard
             → KeepsGroups D.may_leave D.moment D.left_since (hash_head self.old) (groups_held first.held ++ take hard since) (hash_disk self.old) (hash_disk self.new) }
+        ensures fair { (changes : List Changed) → IsStaged D.image self.old changes staged
+            → (first : First) (since : List Group) (hard : ℕ) → HashStands D.image D.may_leave D.past self.old first since hard
+            → KeepsFair D.past D.moment D.left_with (hash_head self.old) (groups_held first.held ++ since)
+                (record { number = number; changes = changes } ∷ []) (hash_disk self.old) (hash_disk self.new) }
         ensures size { (changes : List Changed) → IsStaged D.image self.old changes staged
             → OnOk result ((hash_shown D.image self.new).size ≡ (hash_shown D.image self.old).size + sum_by (change_extent 1) changes) }
         ensures floor { OnOk result ((hash_shown D.image self.new).floor ≡ number + 1) }
@@ -144,8 +145,10 @@ impl<D: Disk> HashStore<D> {
         ensures answers { OkOrFault result }
     {
         self.shelf = None;
+        self.found.forget();
         told(self.log.append(number))?;
         told(put_heads(&mut self.log, &staged.heads))?;
+        set_heads(&mut self.heads, &staged.heads);
         self.count = staged.count;
         self.last = Some(number);
         Ok(())
@@ -153,16 +156,21 @@ impl<D: Disk> HashStore<D> {
 
     /// Makes it durable that the file is closed, with this next number.
     fn end_file(&mut self, next: u64) -> Result<(), StoreError>
-        requires whole { IsWhole (HashStands D.image D.may_leave) self.old }
+        requires whole { IsWhole (HashStands D.image D.may_leave D.past) self.old }
         requires writable { (hash_nature self.old).writable ≡ true }
         requires closed { (hash_shown D.image self.old).closed ≡ true }
-        ensures stands { (first : First) (since : List Group) (hard : ℕ) → HashStands D.image D.may_leave self.old first since hard
-            → OnOk result (HashStands D.image D.may_leave self.new first since (length since)) }
-        ensures kept { (first : First) (since : List Group) (hard : ℕ) → HashStands D.image D.may_leave self.old first since hard
+        ensures stands { (first : First) (since : List Group) (hard : ℕ) → HashStands D.image D.may_leave D.past self.old first since hard
+            → OnOk result (HashStands D.image D.may_leave D.past self.new first since (length since)) }
+        ensures kept { (first : First) (since : List Group) (hard : ℕ) → HashStands D.image D.may_leave D.past self.old first since hard
             → KeepsGroups D.may_leave D.moment D.left_since (hash_head self.old) (groups_held first.held ++ take hard since) (hash_disk self.old) (hash_disk self.new) }
-        ensures file { (groups since : List Group) (hard : ℕ) → HashStands D.image D.may_leave self.old (opening groups) since hard
+        ensures fair { (first : First) (since : List Group) (hard : ℕ) → HashStands D.image D.may_leave D.past self.old first since hard
+            → IfSome (D.image (hash_disk self.old)) (λ _. KeepsFair D.past D.moment D.left_with (hash_head self.old)
+                (groups_held first.held ++ since) [] (hash_disk self.old) (hash_disk self.new)) }
+        ensures file { (groups since : List Group) (hard : ℕ) → HashStands D.image D.may_leave D.past self.old (opening groups) since hard
             → OnOk result (IfSome (D.image (hash_disk self.old)) (λ _. D.image (hash_disk self.new) ≡ Some (closed_text (hash_head self.old) (groups ++ since) next))) }
         ensures durable { OnOk result (IfSome (D.image (hash_disk self.new)) (λ f. Only f (D.may_leave (hash_disk self.new)))) }
+        ensures ended { OnOk result ((hash_shown D.image self.new).ended ≡ Some next) }
+        ensures unended { OnErr result (hash_closing self.new ≡ hash_closing self.old) }
         ensures nature { hash_nature self.new ≡ hash_nature self.old }
         ensures head { hash_head self.new ≡ hash_head self.old }
         ensures closed { (hash_shown D.image self.new).closed ≡ (hash_shown D.image self.old).closed }
@@ -195,7 +203,9 @@ impl<D: Disk> HashStore<D> {
             writable: _,
             closed: _,
             limit: _,
+            heads: _,
             buffer: _,
+            found: _,
             shelf: _,
             staged: _,
         } = self;
@@ -206,23 +216,23 @@ impl<D: Disk> HashStore<D> {
 impl<D: Disk> SeqStore for HashStore<D> {
     ghost use Rattle.std.specs.Prelude.{true, Bool};
     ghost use Rattle.tk_hash.specs.Hash.{hash_disk, hash_head, hash_nature, hash_shown, HashUntouched, HashStands, HashPrepared, HashSafe, HashStood, opening};
-    ghost use Rattle.tk_hash.specs.HashLaws.{hash_replays, hash_rising, hash_held, hash_stood_now, hash_stood_less, hash_safe_less, hash_by_extents};
+    ghost use Rattle.tk_hash.specs.HashLaws.{hash_replays, hash_rising, hash_held, hash_stood_now, hash_stood_less, hash_safe_less, hash_by_extents, hash_unended, hash_values, hash_untouched_same, hash_untouched_then};
 
     ghost nature = { hash_nature };
 
     ghost shown = { hash_shown D.image };
 
-    ghost stands = { HashStands D.image D.may_leave };
+    ghost stands = { HashStands D.image D.may_leave D.past };
 
     ghost prepared = { HashPrepared D.image };
 
     ghost moment = { λ s. D.moment (hash_disk s) };
 
-    ghost safe = { HashSafe D.image D.left_since };
+    ghost safe = { HashSafe D.image D.left_since D.left_with };
 
-    ghost stood = { HashStood D.image D.may_leave D.moment D.left_since };
+    ghost stood = { HashStood D.image D.may_leave D.past D.moment D.left_since D.left_with };
 
-    ghost untouched = { HashUntouched D.image D.may_leave D.moment D.left_since };
+    ghost untouched = { HashUntouched D.image D.may_leave D.past D.moment D.left_since D.left_with };
 
     ghost lawful = { λ m. true };
 
@@ -230,25 +240,33 @@ impl<D: Disk> SeqStore for HashStore<D> {
 
     ghost taken_count = { λ s. D.taken_count (hash_disk s) };
 
-    ghost replays = { hash_replays D.image D.may_leave };
+    ghost replays = { hash_replays D.image D.may_leave D.past };
 
-    ghost rising = { hash_rising D.image D.may_leave };
+    ghost rising = { hash_rising D.image D.may_leave D.past };
 
-    ghost held = { hash_held D.image D.may_leave };
+    ghost held = { hash_held D.image D.may_leave D.past };
 
     ghost numbered = { λ s first since hard st. st.floor };
 
     ghost synced = { λ s first since hard st. st.synced };
 
-    ghost stood_now = { hash_stood_now D.image D.may_leave D.moment D.left_since D.only_now };
+    ghost stood_now = { hash_stood_now D.image D.may_leave D.past D.moment D.left_since D.left_with D.only_now D.only_with D.since_with };
 
-    ghost stood_less = { hash_stood_less D.image D.left_since D.may_leave D.moment };
+    ghost stood_less = { hash_stood_less D.image D.left_since D.left_with D.may_leave D.past D.moment };
 
     ghost stood_stands = { λ s t n first since hard st. st.stands };
 
     ghost stood_safe = { λ s t n first since hard st. st.safe };
 
-    ghost safe_less = { hash_safe_less D.image D.left_since };
+    ghost safe_less = { hash_safe_less D.image D.left_since D.left_with };
+
+    ghost unended = { hash_unended D.image };
+
+    ghost values = { hash_values };
+
+    ghost untouched_same = { hash_untouched_same D.image D.may_leave D.past D.moment D.left_since D.left_with };
+
+    ghost untouched_then = { hash_untouched_then D.image D.may_leave D.past D.moment D.left_since D.left_with D.counts_now D.counts_with };
 
     ghost tells_need = { λ s changes told. Prim.cc };
 
@@ -284,32 +302,37 @@ impl<D: Disk> SeqStore for HashStore<D> {
 
     fn get(&mut self, key: &[u8], out: &mut Bytes) -> Result<bool, StoreError> {
         let head = *self.log.head();
-        get_value(
+        let present = get_value(
             self.alloc,
             self.log.disk(),
             &head,
+            &self.heads,
             &mut self.buffer,
             key,
             out,
-        )
+        )?;
+        self.found.remember(key, present);
+        Ok(present)
     }
 
     fn get_into(&mut self, key: &[u8], into: &mut [u8]) -> Result<Option<u32>, StoreError>
-        requires whole { IsWhole (HashStands D.image D.may_leave) self.old }
+        requires whole { IsWhole (HashStands D.image D.may_leave D.past) self.old }
         ensures value { IfSome (hash_shown D.image self.old).map (λ m. IfOk result (GivesInto (find key.now m) into.old into.new)) }
         ensures cost { IfSome ((hash_shown D.image self.old).cost key.now) (λ most. D.taken_count (hash_disk self.new) ≤ D.taken_count (hash_disk self.old) + most) }
-        ensures nature { hash_nature self.new ≡ hash_nature self.old }
-        ensures shown { hash_shown D.image self.new ≡ hash_shown D.image self.old }
-        ensures stands { Keeps (HashStands D.image D.may_leave) self.old self.new }
-        ensures since { KeepsSince (HashStood D.image D.may_leave D.moment D.left_since) self.old self.new }
-        ensures time { D.moment (hash_disk self.old) ≤ D.moment (hash_disk self.new) }
-        ensures reads { (hash_nature self.old).writable ≡ false → HashUntouched D.image D.may_leave D.moment D.left_since self.old self.new }
-        ensures taken { D.taken_count (hash_disk self.old) ≤ D.taken_count (hash_disk self.new) }
+        ensures looks { OnlyLooks hash_nature (hash_shown D.image) (HashStands D.image D.may_leave D.past) (HashStood D.image D.may_leave D.past D.moment D.left_since D.left_with)
+            (HashUntouched D.image D.may_leave D.past D.moment D.left_since D.left_with) (λ s. D.moment (hash_disk s)) (λ s. D.taken_count (hash_disk s)) self.old self.new }
         ensures cause { HasCause (D.fault_count (hash_disk self.old)) (D.fault_count (hash_disk self.new)) result }
         ensures answers { OkOrFault result }
     {
         let head = *self.log.head();
-        get_value_into(self.log.disk(), &head, &mut self.buffer, key, into)
+        get_value_into(
+            self.log.disk(),
+            &head,
+            &self.heads,
+            &mut self.buffer,
+            key,
+            into,
+        )
     }
 
     fn next(&mut self, bound: &Bound) -> Result<Option<Pair>, StoreError> {
@@ -328,14 +351,13 @@ impl<D: Disk> SeqStore for HashStore<D> {
 
     fn reserve_group(&mut self, changes: &ChangeList) -> Result<(), StoreError> {
         self.staged = None;
-        let empty = changes.is_empty();
         let size = self.log.end();
         let need = need_of(changes.as_slice())?;
         let limit = self.limit.min(LIMIT);
-        if is_over(size, need, limit, empty) {
+        if is_over(size, need, limit, changes) {
             return Err(StoreError::Full { size, need, limit });
         }
-        if !empty {
+        if !changes.is_empty() {
             self.staged = Some(self.stage(changes)?);
         }
         Ok(())
@@ -356,28 +378,29 @@ impl<D: Disk> SeqStore for HashStore<D> {
     }
 
     fn close(&mut self, next: u64) -> Result<(), StoreError>
-        requires whole { IsWhole (HashStands D.image D.may_leave) self.old }
+        requires whole { IsWhole (HashStands D.image D.may_leave D.past) self.old }
         requires open { (hash_shown D.image self.old).closed ≡ false }
         requires number { (hash_nature self.old).writable ≡ true → (hash_shown D.image self.old).floor ≤ next }
         requires below { (hash_nature self.old).writable ≡ true → next < 2 ^ 64 - 1 }
-        ensures stands { (first : First) (since : List Group) (hard : ℕ) → HashStands D.image D.may_leave self.old first since hard
-            → OnOk result (HashStands D.image D.may_leave self.new first (since ++ made (hash_nature self.old) next []) (length (since ++ made (hash_nature self.old) next []))) }
-        ensures map { OnOk result ((hash_shown D.image self.new).map ≡ (hash_shown D.image self.old).map) }
-        ensures since { (t n : ℕ) (first : First) (since : List Group) (hard : ℕ) → HashStood D.image D.may_leave D.moment D.left_since self.old t n first since hard
-            → OnOk result (HashStood D.image D.may_leave D.moment D.left_since self.new t n first (since ++ made (hash_nature self.old) next []) (length (since ++ made (hash_nature self.old) next []))) }
-        ensures safe { LeavesSafe (HashStood D.image D.may_leave D.moment D.left_since) (HashSafe D.image D.left_since) (made (hash_nature self.old) next []) self.old self.new }
-        ensures nature { hash_nature self.new ≡ hash_nature self.old }
+        ensures stands { (first : First) (since : List Group) (hard : ℕ) → HashStands D.image D.may_leave D.past self.old first since hard
+            → OnOk result (HashStands D.image D.may_leave D.past self.new first (since ++ made (hash_nature self.old) next []) (length (since ++ made (hash_nature self.old) next []))) }
+        ensures map { UnlessFault result ((hash_shown D.image self.new).map ≡ (hash_shown D.image self.old).map) }
+        ensures since { (t n : ℕ) (first : First) (since : List Group) (hard : ℕ) → HashStood D.image D.may_leave D.past D.moment D.left_since D.left_with self.old t n first since hard
+            → OnOk result (HashStood D.image D.may_leave D.past D.moment D.left_since D.left_with self.new t n first (since ++ made (hash_nature self.old) next []) (length (since ++ made (hash_nature self.old) next []))) }
+        ensures safe { LeavesSafe (HashStood D.image D.may_leave D.past D.moment D.left_since D.left_with) (HashSafe D.image D.left_since D.left_with) (made (hash_nature self.old) next []) self.old self.new }
         ensures closed { (hash_shown D.image self.new).closed ≡ true }
-        ensures time { D.moment (hash_disk self.old) ≤ D.moment (hash_disk self.new) }
-        ensures taken { D.taken_count (hash_disk self.old) ≤ D.taken_count (hash_disk self.new) }
+        ensures ended { OnOk result ((hash_shown D.image self.new).ended ≡ ended_by (hash_nature self.old) next) }
+        ensures unended { OnErr result ((hash_shown D.image self.new).ended ≡ None) }
+        ensures kept { OnNoMemory result (Keeps (HashStands D.image D.may_leave D.past) self.old self.new × KeepsSince (HashStood D.image D.may_leave D.past D.moment D.left_since D.left_with) self.old self.new) }
+        ensures goes_on { GoesOn hash_nature (hash_shown D.image) (λ s. D.moment (hash_disk s)) (λ s. D.taken_count (hash_disk s)) self.old self.new }
         ensures cause { HasCause (D.fault_count (hash_disk self.old)) (D.fault_count (hash_disk self.new)) result }
         ensures never { NeverFull result }
         ensures answers { OkOrFault result }
-        ensures file { (groups since : List Group) (hard : ℕ) → HashStands D.image D.may_leave self.old (opening groups) since hard
+        ensures file { (groups since : List Group) (hard : ℕ) → HashStands D.image D.may_leave D.past self.old (opening groups) since hard
             → OnOk result (IfSome (D.image (hash_disk self.old)) (λ _. D.image (hash_disk self.new)
             ≡ Some (if (hash_nature self.old).writable then closed_text (hash_head self.old) (groups ++ since) next else closed_text (hash_head self.old) groups (hash_nature self.old).next))) }
         ensures durable { (hash_nature self.old).writable ≡ true → OnOk result (IfSome (D.image (hash_disk self.new)) (λ f. Only f (D.may_leave (hash_disk self.new)))) }
-        ensures reads { (hash_nature self.old).writable ≡ false → HashUntouched D.image D.may_leave D.moment D.left_since self.old self.new }
+        ensures reads { (hash_nature self.old).writable ≡ false → HashUntouched D.image D.may_leave D.past D.moment D.left_since D.left_with self.old self.new }
         ensures told { is_some (D.image (hash_disk self.new)) ≡ is_some (D.image (hash_disk self.old)) }
     {
         self.closed = true;

@@ -1,8 +1,8 @@
 ghost use Rattle.std.specs.Prelude.{◌≡◌, ◌≤◌, ◌<◌, ◌+◌, ◌^◌, ◌++◌, ◌∷◌, [], length, true, false, IfOk, OnOk};
 ghost use Rattle.tk_model.specs.declared.record.Change.TheVariants.{Put};
-ghost use Rattle.tk_model.specs.Records.{AllFit, IsClearAlone};
-ghost use Rattle.tk_disk.specs.MemDisk.{mem_bytes, mem_image, MemMayLeave};
-ghost use Rattle.tk_store.specs.Store.{IsWhole};
+ghost use Rattle.tk_model.specs.Records.{IsClearAlone};
+ghost use Rattle.tk_disk.specs.MemDisk.{mem_bytes, mem_image, mem_past, MemMayLeave};
+ghost use Rattle.tk_store.specs.Store.{IsWhole, AllFitWithin};
 ghost use Rattle.tk_hash.specs.Hash.{hash_nature, hash_shown, HashStands};
 
 use super::*;
@@ -39,7 +39,7 @@ pub(crate) fn fresh(
     faults: &[u64],
 ) -> Result<HashStore<MemDisk>, OpenError>
     requires p { p ≤ 24 }
-    ensures whole { IfOk result (IsWhole (HashStands mem_image MemMayLeave)) }
+    ensures whole { IfOk result (IsWhole (HashStands mem_image MemMayLeave mem_past)) }
     ensures open { IfOk result (λ s. (hash_shown mem_image s).closed ≡ false) }
     ensures writable { IfOk result (λ s. (hash_nature s).writable ≡ true) }
     ensures floor { IfOk result (λ s. (hash_shown mem_image s).floor ≤ 0) }
@@ -53,7 +53,7 @@ pub(crate) fn fresh(
 
 /// A store over a closed file, for reading.
 fn opened(alloc: Global, disk: MemDisk) -> Result<HashStore<MemDisk>, OpenError>
-    ensures whole { IfOk result (IsWhole (HashStands mem_image MemMayLeave)) }
+    ensures whole { IfOk result (IsWhole (HashStands mem_image MemMayLeave mem_past)) }
 {
     match HashStore::open_file(alloc, disk, false, LIMIT, ALONE) {
         Ok(store) => Ok(store),
@@ -342,7 +342,7 @@ fn add_put(
 
 /// A key that is set and then removed, one that is set twice, and one more.
 fn mixed_changes(alloc: Global) -> Result<ChangeList, NoMemory>
-    ensures fit { IfOk result AllFit }
+    ensures fit { IfOk result (AllFitWithin 16777215) }
     ensures alone { IfOk result IsClearAlone }
 {
     let mut changes = ChangeList::new(alloc);
@@ -356,7 +356,7 @@ fn mixed_changes(alloc: Global) -> Result<ChangeList, NoMemory>
 
 /// A clear alone.
 fn clearing(alloc: Global) -> Result<ChangeList, NoMemory>
-    ensures fit { IfOk result AllFit }
+    ensures fit { IfOk result (AllFitWithin 16777215) }
     ensures alone { IfOk result IsClearAlone }
 {
     let mut changes = ChangeList::new(alloc);
@@ -371,7 +371,7 @@ fn apply<S: SeqStore>(store: &mut S, number: u64, changes: &ChangeList) -> Resul
     requires writable { (S.nature store.old).writable ≡ true }
     requires number { (S.shown store.old).floor ≤ number }
     requires alone { IsClearAlone changes.now }
-    requires fit { AllFit changes.now }
+    requires fit { AllFitWithin 16777215 changes.now }
     ensures whole { OnOk result (IsWhole S.stands store.new) }
     ensures open { OnOk result ((S.shown store.new).closed ≡ false) }
     ensures writable { OnOk result ((S.nature store.new).writable ≡ true) }
@@ -568,9 +568,9 @@ fn all_reads<S: SeqStore>(alloc: Global, store: &mut S) -> Result<(), StoreError
 
 /// Makes all durable.
 pub(crate) fn sync_hard(store: &mut HashStore<MemDisk>) -> Result<(), StoreError>
-    requires whole { IsWhole (HashStands mem_image MemMayLeave) store.old }
+    requires whole { IsWhole (HashStands mem_image MemMayLeave mem_past) store.old }
     requires open { (hash_shown mem_image store.old).closed ≡ false }
-    ensures whole { OnOk result (IsWhole (HashStands mem_image MemMayLeave) store.new) }
+    ensures whole { OnOk result (IsWhole (HashStands mem_image MemMayLeave mem_past) store.new) }
     ensures shown { OnOk result (hash_shown mem_image store.new ≡ hash_shown mem_image store.old) }
     ensures nature { hash_nature store.new ≡ hash_nature store.old }
 {
@@ -580,7 +580,7 @@ pub(crate) fn sync_hard(store: &mut HashStore<MemDisk>) -> Result<(), StoreError
 
 /// Each kind of call that reads or writes.
 fn all_calls(alloc: Global, store: &mut HashStore<MemDisk>) -> Result<(), StoreError>
-    requires whole { IsWhole (HashStands mem_image MemMayLeave) store.old }
+    requires whole { IsWhole (HashStands mem_image MemMayLeave mem_past) store.old }
     requires open { (hash_shown mem_image store.old).closed ≡ false }
     requires writable { (hash_nature store.old).writable ≡ true }
     requires number { (hash_shown mem_image store.old).floor ≤ 0 }
@@ -675,7 +675,7 @@ fn files_that_are_refused(rt: HostRuntime) -> Result<(), Fail> {
         generation: 0,
     };
     let mut other = disk_of(alloc, b"", &[])?;
-    write_fresh(alloc, &mut other, &head, &PairList::new(alloc))?;
+    write_fresh(alloc, &mut other, &head, 0, &PairList::new(alloc))?;
     assert_eq!(rt;
         refusal(alloc, other.bytes(), &[])?,
         Some(OpenError::BrokenAt(8))

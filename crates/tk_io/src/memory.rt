@@ -1,19 +1,20 @@
 ghost use Rattle.std.specs.Prelude.{◌≡◌, ◌+◌, ◌++◌, ◌≤◌, ◌<◌, ◌↔◌, [], min, length, take, drop, IfOk, OnOk, OnErr, IsErrOf, Contains, Some};
 ghost use Rattle.std.specs.Io.KnownBytes.{Appends, Consumes, IsAtEnd, Keeps};
-ghost use Rattle.tk_io.specs.Streams.{AppendsFront, HasCause, capped};
+ghost use Rattle.tk_io.specs.Streams.{AppendsFront, HasCause};
+ghost use Rattle.tk_model.specs.Counts.{capped};
 
-use crate::schedule::Schedule;
+use crate::schedule::begin;
 use crate::{IoError, Sink, Source};
 use std::alloc::Global;
 use std::marker::Model;
-use tk_model::{Bytes, FaultList};
+use tk_model::{Bytes, FaultList, FaultSchedule};
 
 /// A source over bytes in memory. The calls whose numbers, counted from 0, stand in its list fail.
 #[derive(Drop)]
 pub struct MemSource {
     bytes: Bytes,
     at: usize,
-    schedule: Schedule,
+    schedule: FaultSchedule,
 }
 
 impl Model for MemSource {
@@ -44,7 +45,7 @@ impl MemSource {
         MemSource {
             bytes,
             at: 0,
-            schedule: Schedule::new(faults),
+            schedule: FaultSchedule::new(faults),
         }
     }
 }
@@ -57,7 +58,7 @@ impl Source for MemSource {
     ghost fault_count = { λ s. s.faults };
 
     fn faults(&self) -> u64 {
-        self.schedule.faults
+        self.schedule.faults()
     }
 
     /// Gives as many bytes as fit.
@@ -74,7 +75,7 @@ impl Source for MemSource {
         ensures failing { self.new.failing ≡ self.old.failing }
         ensures raised { OnErr result (self.new.faults ≡ capped (self.old.faults + 1)) }
     {
-        self.schedule.begin()?;
+        begin(&mut self.schedule)?;
         let count = copy_front(&self.bytes.as_slice()[self.at..], into);
         self.at += count;
         Ok(count)
@@ -85,7 +86,7 @@ impl Source for MemSource {
 #[derive(Drop)]
 pub struct MemSink {
     bytes: Bytes,
-    schedule: Schedule,
+    schedule: FaultSchedule,
 }
 
 impl Model for MemSink {
@@ -102,7 +103,7 @@ impl MemSink {
     {
         MemSink {
             bytes: Bytes::new(alloc),
-            schedule: Schedule::new(faults),
+            schedule: FaultSchedule::new(faults),
         }
     }
 
@@ -122,7 +123,7 @@ impl Sink for MemSink {
     ghost fault_count = { λ s. s.faults };
 
     fn faults(&self) -> u64 {
-        self.schedule.faults
+        self.schedule.faults()
     }
 
     /// A call that fails writes nothing.
@@ -137,7 +138,7 @@ impl Sink for MemSink {
         ensures failing { self.new.failing ≡ self.old.failing }
         ensures raised { IsErrOf result IoError.Fault → self.new.faults ≡ capped (self.old.faults + 1) }
     {
-        self.schedule.begin()?;
+        begin(&mut self.schedule)?;
         if self.bytes.extend(bytes).is_err() {
             return Err(IoError::NoMemory);
         }

@@ -7,3 +7,4 @@ pub mod RecordLaws
 pub mod NetChanges
 pub mod Shards
 pub mod Limits
+pub mod RecordTexts

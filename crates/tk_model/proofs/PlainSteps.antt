@@ -1,10 +1,10 @@
 -- How the plain machine goes through the touches of an entry.
-use Rattle.std.proofs.Common.{◌≡◌, ℕ, suc, ◌+◌, ◌<◌, ◌≤◌, Bool, true, false, ◌&&◌, List, [], ◌∷◌, length, drop, get_or, Some, None, refl, sym, ap, ◌∙◌, if◌then◌else◌}
+use Rattle.std.proofs.Common.{◌≡◌, ℕ, suc, ◌+◌, ◌<◌, ◌≤◌, Bool, true, false, ◌&&◌, List, [], ◌∷◌, length, drop, get_or, Some, None, refl, sym, ap, subst, ◌∙◌, if◌then◌else◌}
 use Rattle.std.proofs.Math.ListN.{drop_of_length-le}
 use Rattle.std.proofs.lemmas.List.{drop_more}
 use Rattle.std.specs.List.{list_all}
 use Rattle.tk_model.specs.Orders.{same_bytes}
-use Rattle.tk_model.specs.Records.{find}
+use Rattle.tk_model.specs.Records.{find, Rising}
 use Rattle.tk_model.specs.Entries.{touched, all_touched, same_value, all_were, are_all, fits}
 use Rattle.tk_model.specs.declared.record.Order.{Order}
 use Rattle.tk_model.specs.declared.record.Pair.{Pair}
@@ -86,3 +86,8 @@ are_not_all (t ∷ ts) (p ∷ ps) other =
 
 pub other_length : (ts : List Touch) (m : List Pair) → (length ts ≡ length m → ⊥) → false ≡ all_fit_each ts m
 other_length ts m other = sym (ap (λ b. b && list_all fits ts) (are_not_all ts m other))
+
+-- records that were answered rise where those in turn do
+pub some_rising : (o : Order) (b : Bool) (m n : List Pair) → Some n ≡ (if b then Some m else None) → Rising o m → Rising o n
+some_rising o true m n e rising = let same : m ≡ n = cc in subst (Rising o) same rising
+some_rising o false m n e rising = absurd (cc)

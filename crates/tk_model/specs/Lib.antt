@@ -1,3 +1,4 @@
+pub mod Counts
 pub mod Hashes
 pub mod Orders
 pub mod Records
@@ -6,3 +7,6 @@ pub mod OrderLaws
 pub mod Places
 pub mod OrderedRecords
 pub mod RecordLaws
+pub mod Room
+pub mod Schedule
+pub mod RecordText

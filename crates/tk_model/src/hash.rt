@@ -50,7 +50,7 @@ pub fn mix(bytes: &[u8]) -> u64
 
 /// The bucket of a mixed hash among `2^p`: its top `p` bits.
 pub fn bucket(mix: u64, p: u8) -> u64
-    requires { p ≤ 24 }
+    requires { p ≤ 64 }
     ensures value { result ≡ bucket_of mix p }
     ensures below { result < 2 ^ p }
 {

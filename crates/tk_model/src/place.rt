@@ -1,5 +1,5 @@
 //! Where keys stand in a list of records.
-ghost use Rattle.std.specs.Prelude.{◌≡◌, ◌↔◌, IsTrue, OnOk, OnErr, IfSome, MatchOption, MatchResult};
+ghost use Rattle.std.specs.Prelude.{◌≡◌, ◌↔◌, IsTrue, IfOk, OnOk, OnErr, IfSome, MatchOption, MatchResult};
 ghost use Rattle.std.specs.Option.{option_copied};
 ghost use Rattle.tk_model.specs.Places.{StandsAt, StandsNowhere, GoesAt, GoesBefore};
 ghost use Rattle.tk_model.specs.Records.{find, put, without, reaches, first_within, last_within, named};
@@ -8,7 +8,8 @@ use crate::order::is_same;
 use crate::{Bound, Bytes, NoMemory, Order, Pair, PairList, Way, compare_keys};
 use std::cmp::Ordering;
 
-fn place_of(pairs: &[Pair], key: &[u8]) -> Option<usize>
+/// The place of a key's record.
+pub fn place_of(pairs: &[Pair], key: &[u8]) -> Option<usize>
     ensures { MatchOption result (StandsNowhere key.now pairs.now) (StandsAt key.now pairs.now) }
 {
     for i in 0..pairs.len() {
@@ -20,7 +21,7 @@ fn place_of(pairs: &[Pair], key: &[u8]) -> Option<usize>
 }
 
 /// The place of a key's record, or else the place where it belongs.
-fn place_to_put(pairs: &[Pair], order: &Order, key: &[u8]) -> Result<usize, usize>
+pub fn place_to_put(pairs: &[Pair], order: &Order, key: &[u8]) -> Result<usize, usize>
     ensures { MatchResult result (GoesAt order.now key.now pairs.now) (GoesBefore order.now key.now pairs.now) }
 {
     for i in 0..pairs.len() {
@@ -40,6 +41,15 @@ pub fn value_at<'a>(pairs: &'a [Pair], key: &[u8]) -> Option<&'a Bytes>
         Some(i) => Some(&pairs[i].value),
         None => None,
     }
+}
+
+/// A copy of a record.
+pub fn copy_pair(pair: &Pair) -> Result<Pair, NoMemory>
+    ensures { IfOk result (λ copy. copy ≡ pair.now) }
+{
+    let key = pair.key.clone()?;
+    let value = pair.value.clone()?;
+    Ok(Pair { key, value })
 }
 
 pub fn put_in(pairs: &mut PairList, order: &Order, new: Pair) -> Result<(), NoMemory>
@@ -63,7 +73,8 @@ pub fn drop_in(pairs: &mut PairList, key: &[u8])
     }
 }
 
-fn is_within(order: &Order, way: Way, bound: &Bound, key: &[u8]) -> bool
+/// The key is within the bound, in the way's direction.
+pub fn is_within(order: &Order, way: Way, bound: &Bound, key: &[u8]) -> bool
     ensures { result ≡ reaches order.now way bound.now key.now }
 {
     match bound {
@@ -85,7 +96,7 @@ fn is_within(order: &Order, way: Way, bound: &Bound, key: &[u8]) -> bool
     }
 }
 
-fn first_pair<'a>(pairs: &'a [Pair], order: &Order, bound: &Bound) -> Option<&'a Pair>
+pub fn first_pair<'a>(pairs: &'a [Pair], order: &Order, bound: &Bound) -> Option<&'a Pair>
     ensures { option_copied result ≡ first_within order.now bound.now pairs.now }
 {
     for i in 0..pairs.len() {
@@ -97,7 +108,7 @@ fn first_pair<'a>(pairs: &'a [Pair], order: &Order, bound: &Bound) -> Option<&'a
     None
 }
 
-fn last_pair<'a>(pairs: &'a [Pair], order: &Order, bound: &Bound) -> Option<&'a Pair>
+pub fn last_pair<'a>(pairs: &'a [Pair], order: &Order, bound: &Bound) -> Option<&'a Pair>
     ensures { option_copied result ≡ last_within order.now bound.now pairs.now }
 {
     for i in (0..pairs.len()).rev() {

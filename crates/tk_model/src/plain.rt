@@ -2,13 +2,15 @@
 ghost use Rattle.std.specs.Prelude.{◌≡◌, ◌&&◌, length, nat_le, unwrap_or, [], IfOk, OnOk, OnErr, Some, None, if◌then◌else◌};
 ghost use Rattle.std.specs.Option.{option_copied};
 ghost use Rattle.std.specs.List.{list_all};
-ghost use Rattle.tk_model.specs.Records.{find, named};
+ghost use Rattle.tk_model.specs.Records.{find, named, after_one, Rising};
 ghost use Rattle.tk_model.specs.declared.record.Entry.TheVariants.{Next};
 ghost use Rattle.tk_model.specs.Entries.{touched, all_touched, same_value, same_record, all_were, are_all, is_keep, stored, fits, is_legal, after_entry, step};
 
 use crate::order::is_same;
-use crate::place::{drop_in, named_pair, put_in, value_at};
-use crate::{Action, Bound, Bytes, Entry, ListOf, NoMemory, Order, Pair, PairList, Touch, Way};
+use crate::place::{copy_pair, drop_in, named_pair, put_in, value_at};
+use crate::{
+    Action, Bound, Bytes, Change, Entry, ListOf, NoMemory, Order, Pair, PairList, Touch, Way,
+};
 use std::alloc::Global;
 use std::marker::Model;
 
@@ -27,10 +29,13 @@ pub struct PlainMap {
 
 impl Model for PlainMap {
     ghost use Rattle.tk_model.specs.OrderedRecords.{OrderedRecords};
+    ghost use Rattle.tk_model.specs.Records.{Rising};
 
     ghost Value = { OrderedRecords };
 
     ghost view = { λ m. record { order = m.order; pairs = m.pairs } };
+
+    ghost invariant = { λ m. Rising m.order m.pairs };
 }
 
 fn is_value(was: &Option<Bytes>, there: Option<&Bytes>) -> bool
@@ -160,10 +165,26 @@ impl PlainMap {
         }
     }
 
+    /// The records, in the order of their keys.
     pub fn pairs(&self) -> &PairList
-        ensures { result.now ≡ self.now.pairs }
+        ensures pairs { result.now ≡ self.now.pairs }
+        ensures rising { Rising self.now.order self.now.pairs }
     {
         &self.pairs
+    }
+
+    /// Makes one change.
+    pub fn apply(&mut self, change: &Change) -> Result<(), NoMemory>
+        ensures after { OnOk result (self.new.pairs ≡ after_one self.old.order change.now self.old.pairs) }
+        ensures order { self.new.order ≡ self.old.order }
+        ensures err { OnErr result (self.new ≡ self.old) }
+    {
+        match change {
+            Change::Put(pair) => put_in(&mut self.pairs, &self.order, copy_pair(pair)?)?,
+            Change::Drop(key) => drop_in(&mut self.pairs, key.as_slice()),
+            Change::Clear => self.pairs.clear(),
+        }
+        Ok(())
     }
 
     /// Makes one call, and answers whether it is legal on these records. One that isn't changes nothing.
@@ -197,6 +218,9 @@ impl PlainMap {
         ensures order { self.new.order ≡ self.old.order }
         ensures err { OnErr result (self.new ≡ self.old) }
     {
+        if let [touch] = touches {
+            return self.run_touch(touch);
+        }
         match after_proc(&self.pairs, &self.order, touches)? {
             Some(after) => {
                 self.pairs = after;
@@ -204,6 +228,20 @@ impl PlainMap {
             }
             None => Ok(false),
         }
+    }
+
+    /// A call at one key, which copies no other record.
+    fn run_touch(&mut self, touch: &Touch) -> Result<bool, NoMemory>
+        ensures legal { IfOk result (λ done. done ≡ (same_value touch.now.was (find touch.now.key self.old.pairs) && fits touch.now)) }
+        ensures after { IfOk result (λ done. self.new.pairs ≡ (if done then touched self.old.order touch.now.key touch.now.action self.old.pairs else self.old.pairs)) }
+        ensures order { self.new.order ≡ self.old.order }
+        ensures err { OnErr result (self.new ≡ self.old) }
+    {
+        if !was_there(&self.pairs, touch) || !does_fit(&touch.key, &touch.action) {
+            return Ok(false);
+        }
+        act_in(&mut self.pairs, &self.order, &touch.key, &touch.action)?;
+        Ok(true)
     }
 
     fn run_next(

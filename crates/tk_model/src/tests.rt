@@ -145,3 +145,118 @@ fn calls_on_the_plain_machine(rt: HostRuntime) -> Result<(), Fail> {
     assert!(rt; map.run(&none)?);
     Ok(())
 }
+
+#[test]
+fn changes_on_the_plain_machine(rt: HostRuntime) -> Result<(), Fail> {
+    let alloc = rt.alloc();
+    let mut map = PlainMap::new(alloc, Order::Bytes);
+    for (key, value) in [("b", "2"), ("a", "1"), ("b", "3")] {
+        let key = Bytes::from_slice(alloc, key.as_bytes())?;
+        let value = Bytes::from_slice(alloc, value.as_bytes())?;
+        map.apply(&Change::Put(Pair { key, value }))?;
+    }
+    assert!(rt; shows(&map, "a 1 b 3"));
+    map.apply(&Change::Drop(Bytes::from_slice(alloc, b"a")?))?;
+    map.apply(&Change::Drop(Bytes::from_slice(alloc, b"c")?))?;
+    assert!(rt; shows(&map, "b 3"));
+    map.apply(&Change::Clear)?;
+    assert!(rt; map.pairs().is_empty());
+    Ok(())
+}
+
+#[test]
+fn a_call_of_two_touches(rt: HostRuntime) -> Result<(), Fail> {
+    let alloc = rt.alloc();
+    let mut map = PlainMap::new(alloc, Order::Bytes);
+    let mut touches = TouchList::new(alloc);
+    touches.push(touch(alloc, "a", None, put(alloc, "1")?)?)?;
+    touches.push(touch(alloc, "a", Some("1"), put(alloc, "2")?)?)?;
+    let entry = Entry::Proc(touches);
+    assert!(rt; map.run(&entry)? && !map.run(&entry)?);
+    assert!(rt; shows(&map, "a 2"));
+    Ok(())
+}
+
+#[test]
+fn pushes_into_room(rt: HostRuntime) -> Result<(), Fail> {
+    let mut list = ReservedList::from_list(BytesList::new(rt.alloc()));
+    list.reserve(2)?;
+    for text in ["a", "b"] {
+        let text = Bytes::from_slice(rt.alloc(), text.as_bytes())?;
+        assert!(rt; list.room() > 0);
+        list.push_reserved(text);
+    }
+    assert!(rt;
+        list.as_slice()
+            .last()
+            .map(|b| b.as_slice() == b"b".as_slice())
+            == Some(true)
+    );
+    assert_eq!(rt; list.into_list().len(), 2);
+    let mut bytes = ReservedList::from_bytes(Bytes::from_slice(rt.alloc(), b"ab")?);
+    bytes.reserve(3)?;
+    bytes.extend_reserved(b"cde");
+    assert_eq!(rt; bytes.as_slice(), b"abcde".as_slice());
+    bytes.clear();
+    assert_eq!(rt; bytes.len(), 0);
+    assert_eq!(rt; bytes.into_bytes().len(), 0);
+    Ok(())
+}
+
+#[test]
+fn a_record_and_its_text(rt: HostRuntime) -> Result<(), Fail> {
+    let mut out = Bytes::from_slice(rt.alloc(), b">")?;
+    write_record(b"k", b"val", &mut out)?;
+    out.extend(b"<")?;
+    assert_eq!(rt;
+        out.as_slice(),
+        b">\x00\x01\x00\x00\x00\x03kval<".as_slice()
+    );
+    let here = record_here(&out.as_slice()[1..]).ok_or("refused")?;
+    assert_eq!(rt; here.key, b"k".as_slice());
+    assert_eq!(rt; here.value, b"val".as_slice());
+    assert_eq!(rt; here.rest, b"<".as_slice());
+    assert!(rt; record_here(&out.as_slice()[1..10]).is_none());
+    Ok(())
+}
+
+#[test]
+fn calls_that_fail(rt: HostRuntime) -> Result<(), Fail> {
+    let mut failing = FaultList::new(rt.alloc());
+    failing.push(1)?;
+    let mut schedule = FaultSchedule::new(failing);
+    for call in 0..3 {
+        let due = schedule.is_due();
+        assert_eq!(rt; due, call == 1);
+        schedule.count(due);
+    }
+    assert_eq!(rt; schedule.faults(), 1);
+    Ok(())
+}
+
+#[test]
+fn places_of_keys(rt: HostRuntime) -> Result<(), Fail> {
+    let alloc = rt.alloc();
+    let mut pairs = PairList::new(alloc);
+    for key in ["b", "d"] {
+        let pair = Pair {
+            key: Bytes::from_slice(alloc, key.as_bytes())?,
+            value: Bytes::new(alloc),
+        };
+        put_in(&mut pairs, &Order::Bytes, copy_pair(&pair)?)?;
+    }
+    let list = pairs.as_slice();
+    assert!(rt; place_of(list, b"d") == Some(1) && place_of(list, b"c").is_none());
+    assert!(rt; place_to_put(list, &Order::Bytes, b"c") == Err(1));
+    let over = Bound::Over(Bytes::from_slice(alloc, b"b")?);
+    assert!(rt;
+        first_pair(list, &Order::Bytes, &over).map(|p| p.key.as_slice() == b"d".as_slice())
+            == Some(true)
+    );
+    assert!(rt; last_pair(list, &Order::Bytes, &over).is_none());
+    assert!(rt; named_pair(list, &Order::Bytes, Way::Down, &Bound::Edge).is_some());
+    assert!(rt; is_within(&Order::Bytes, Way::Up, &over, b"c") && value_at(list, b"b").is_some());
+    drop_in(&mut pairs, b"b");
+    assert_eq!(rt; pairs.len(), 1);
+    Ok(())
+}

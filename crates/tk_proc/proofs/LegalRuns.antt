@@ -69,7 +69,7 @@ kept_fit (k ∷ ks) m short =
 
 -- ---- each record is found
 
-abbrev AllFound : List Pair → List Pair → Type 0
+abbrev pub AllFound : List Pair → List Pair → Type 0
 AllFound m [] = Unit {0}
 AllFound m (p ∷ ps) = (find p.key m ≡ Some p.value) × AllFound m ps
 
@@ -78,7 +78,7 @@ found_past o k m n [] same behind found = tt
 found_past o k m n (p ∷ ps) same behind found =
     (same p.key (apart_greater o p.key k (flipped o k p.key Less behind.0)) ∙ found.0, found_past o k m n ps same behind.1 found.1)
 
-all_found : (o : Order) (m : List Pair) → Rising o m → AllFound m m
+pub all_found : (o : Order) (m : List Pair) → Rising o m → AllFound m m
 all_found o [] rising = tt
 all_found o (p ∷ ps) rising =
     (found_head p.key p ps (same_itself p.key), found_past o p.key ps (p ∷ ps) ps (λ j other. found_deeper j p ps other) rising.0 (all_found o ps rising.1))

@@ -1,5 +1,5 @@
 //! Laws, as functions that do nothing.
-ghost use Rattle.tk_proc.specs.RunLaws.{RunsAreLegal, OneKeyChanges};
+ghost use Rattle.tk_proc.specs.RunLaws.{RunsAreLegal, OneKeyChanges, RunsAnswer};
 
 use crate::RecordProcessor;
 use tk_model::Order;
@@ -8,6 +8,7 @@ use tk_model::Order;
 pub fn runs_are_legal<P: RecordProcessor>(_: &P, order: Order)
     ensures legal { RunsAreLegal P.acts P.turns order }
     ensures one { OneKeyChanges P.acts P.turns order }
+    ensures answers { RunsAnswer P.acts P.turns order }
 {
     let _ = order;
 }

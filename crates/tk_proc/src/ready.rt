@@ -51,6 +51,14 @@ impl Getter {
             None => None,
         }
     }
+
+    /// The value that the last call read, given away.
+    pub fn into_value(self) -> Option<Bytes>
+        ensures { result ≡ (get_reply self).value }
+    {
+        let Getter { found, .. } = self;
+        found
+    }
 }
 
 impl RecordProcessor for Getter {

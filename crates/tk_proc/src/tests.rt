@@ -26,6 +26,13 @@ fn a_getter(rt: HostRuntime) -> Result<(), Fail> {
     assert!(rt; answer(&mut getter, None, "")?);
     assert_eq!(rt; number(&getter.status()), 7);
     assert!(rt; getter.value().is_none());
+    assert!(rt; answer(&mut getter, Some(b"new"), "")?);
+    assert!(rt;
+        getter
+            .into_value()
+            .map(|value| value.as_slice() == b"new".as_slice())
+            == Some(true)
+    );
     Ok(())
 }
 

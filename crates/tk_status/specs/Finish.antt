@@ -12,6 +12,10 @@ ended status = record { status = status; line = 0; file = 0; place = 0; answer =
 abbrev pub refused_at : (file place : ℕ) → Finish
 refused_at file place = record { status = 3; line = 0; file = file; place = place; answer = 0 }
 
+-- a file that was to be written new has bytes
+abbrev pub exists_at : (file : ℕ) → Finish
+exists_at file = record { status = 7; line = 0; file = file; place = 0; answer = 0 }
+
 -- a call answered the status of this number, which is not success
 abbrev pub answered : (answer : ℕ) → Finish
 answered answer = record { status = 6; line = 0; file = 0; place = 0; answer = answer }

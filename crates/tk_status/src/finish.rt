@@ -12,7 +12,7 @@ pub struct Finish {
 
 impl Finish {
     ghost use Rattle.std.specs.Prelude.{◌≡◌};
-    ghost use Rattle.tk_status.specs.Finish.{ended, refused_at, answered, ended_by};
+    ghost use Rattle.tk_status.specs.Finish.{ended, refused_at, exists_at, answered, ended_by};
     ghost use Rattle.tk_status.specs.Statuses.{number_of};
 
     /// The end with this status and nothing more to tell.
@@ -37,6 +37,19 @@ impl Finish {
             line: 0,
             file,
             place,
+            answer: 0,
+        }
+    }
+
+    /// The end at a file that was to be written new, and has bytes.
+    pub fn exists(file: u64) -> Finish
+        ensures { result ≡ exists_at file }
+    {
+        Finish {
+            status: 7,
+            line: 0,
+            file,
+            place: 0,
             answer: 0,
         }
     }

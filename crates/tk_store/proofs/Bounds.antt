@@ -3,7 +3,7 @@ use Rattle.std.proofs.Common.{◌≡◌, ℕ, ◌+◌, ◌-◌, ◌^◌, ◌<◌
 use Rattle.std.proofs.lemmas.List.{length-take, length-take-le, take-append-drop, drop_more, take_more, take_all}
 use Rattle.std.specs.Ordering.{is_lt, is_le, is_gt, is_ge}
 use Rattle.std.specs.declared.cmp.Ordering.TheVariants.{Less}
-use Rattle.tk_model.specs.Hashes.{mix_of, bucket_of}
+use Rattle.tk_model.specs.Hashes.{mix_of}
 use Rattle.tk_model.specs.Orders.{key_cmp}
 use Rattle.tk_model.specs.Records.{reaches, first_within, last_within, or_else, AllBehind}
 use Rattle.tk_model.specs.declared.record.Order.TheVariants.{Hash}
@@ -12,7 +12,8 @@ use Rattle.tk_model.specs.declared.record.Bound.{Bound}
 use Rattle.tk_model.specs.declared.record.Bound.TheVariants.{Edge, Over, From}
 use Rattle.tk_model.specs.declared.record.Pair.{Pair}
 use Rattle.tk_model.proofs.RecordLaws.{flipped}
-use Rattle.tk_store.specs.Hashed.{joined, Placed, AreBuckets, start_of, end_of}
+use Rattle.tk_store.specs.Hashed.{joined, bucket_in, Placed, AreBuckets, start_in, end_in}
+use Rattle.tk_store.specs.declared.parting.Parting.{Parting}
 use Rattle.tk_store.proofs.Joined.{AllBefore, joined-append, placed_before, placed_behind, placed_first, placed_rest}
 
 -- ---- of two lists
@@ -72,18 +73,18 @@ from_behind k (p ∷ ys) behind =
 joined_cut : (bs : List (List Pair)) (i : ℕ) → joined bs ≡ joined (take i bs) ++ joined (drop i bs)
 joined_cut bs i = ap joined (sym (take-append-drop i bs)) ∙ joined-append (take i bs) (drop i bs)
 
-cut_before : (p : ℕ) (bs : List (List Pair)) (count : ℕ) (k : List ℕ) → AreBuckets p bs count → AllBefore k (joined (take (bucket_of (mix_of k) p) bs))
+cut_before : (p : Parting) (bs : List (List Pair)) (count : ℕ) (k : List ℕ) → AreBuckets p bs count → AllBefore k (joined (take (bucket_in p (mix_of k)) bs))
 cut_before p bs count k are =
-    let i = bucket_of (mix_of k) p in
+    let i = bucket_in p (mix_of k) in
     let whole = subst (Placed p 0) (sym (take-append-drop i bs)) are.placed in
     placed_before p 0 k (take i bs) (omega (arith, length-take i bs)) (placed_first p 0 (take i bs) (drop i bs) whole)
 
-cut_behind : (p : ℕ) (bs : List (List Pair)) (count : ℕ) (k : List ℕ) → AreBuckets p bs count → bucket_of (mix_of k) p + 1 ≤ 2 ^ p → AllBehind Hash k (joined (drop (bucket_of (mix_of k) p + 1) bs))
+cut_behind : (p : Parting) (bs : List (List Pair)) (count : ℕ) (k : List ℕ) → AreBuckets p bs count → bucket_in p (mix_of k) + 1 ≤ 2 ^ p.p → AllBehind Hash k (joined (drop (bucket_in p (mix_of k) + 1) bs))
 cut_behind p bs count k are within =
-    let i = bucket_of (mix_of k) p + 1 in
+    let i = bucket_in p (mix_of k) + 1 in
     let whole = subst (Placed p 0) (sym (take-append-drop i bs)) are.placed in
     let number = are.number in
-    let e : 0 + length (take i bs) ≡ bucket_of (mix_of k) p + 1 = omega (arith, length-take-le i bs) in
+    let e : 0 + length (take i bs) ≡ bucket_in p (mix_of k) + 1 = omega (arith, length-take-le i bs) in
     placed_behind p i k (drop i bs) (omega arith) (subst (λ j. Placed p j (drop i bs)) e (placed_rest p 0 (take i bs) (drop i bs) whole))
 
 skipped : (b : Bound) (xs ys : List Pair) → first_within Hash b xs ≡ None → first_within Hash b (xs ++ ys) ≡ first_within Hash b ys
@@ -93,25 +94,25 @@ left_out : (b : Bound) (xs ys : List Pair) → last_within Hash b ys ≡ None �
 left_out b xs ys e = last-append b xs ys ∙ ap (λ a. or_else a (last_within Hash b xs)) e
 
 -- nothing before the start is within the bound
-pub from_start : (p : ℕ) (bs : List (List Pair)) (count : ℕ) (b : Bound) → AreBuckets p bs count → first_within Hash b (joined (drop (start_of p b) bs)) ≡ first_within Hash b (joined bs)
+pub from_start : (p : Parting) (bs : List (List Pair)) (count : ℕ) (b : Bound) → AreBuckets p bs count → first_within Hash b (joined (drop (start_in p b) bs)) ≡ first_within Hash b (joined bs)
 from_start p bs count Edge are = refl
 from_start p bs count (Over k) are =
-    let i = bucket_of (mix_of k) p in
+    let i = bucket_in p (mix_of k) in
     sym (ap (first_within Hash (Over k)) (joined_cut bs i) ∙ skipped (Over k) (joined (take i bs)) (joined (drop i bs)) (over_before k (joined (take i bs)) (cut_before p bs count k are)))
 from_start p bs count (From k) are =
-    let i = bucket_of (mix_of k) p in
+    let i = bucket_in p (mix_of k) in
     sym (ap (first_within Hash (From k)) (joined_cut bs i) ∙ skipped (From k) (joined (take i bs)) (joined (drop i bs)) (from_before k (joined (take i bs)) (cut_before p bs count k are)))
 
 -- nothing from the end on is within the bound
-pub before_end : (p : ℕ) (bs : List (List Pair)) (count : ℕ) (b : Bound) → AreBuckets p bs count → end_of p b ≤ 2 ^ p → last_within Hash b (joined (take (end_of p b) bs)) ≡ last_within Hash b (joined bs)
+pub before_end : (p : Parting) (bs : List (List Pair)) (count : ℕ) (b : Bound) → AreBuckets p bs count → end_in p b ≤ 2 ^ p.p → last_within Hash b (joined (take (end_in p b) bs)) ≡ last_within Hash b (joined bs)
 before_end p bs count Edge are within =
     let number = are.number in
-    ap (λ m. last_within Hash Edge (joined m)) (take_all (2 ^ p) bs (omega arith))
+    ap (λ m. last_within Hash Edge (joined m)) (take_all (2 ^ p.p) bs (omega arith))
 before_end p bs count (Over k) are within =
-    let i = bucket_of (mix_of k) p + 1 in
+    let i = bucket_in p (mix_of k) + 1 in
     sym (ap (last_within Hash (Over k)) (joined_cut bs i) ∙ left_out (Over k) (joined (take i bs)) (joined (drop i bs)) (over_behind k (joined (drop i bs)) (cut_behind p bs count k are within)))
 before_end p bs count (From k) are within =
-    let i = bucket_of (mix_of k) p + 1 in
+    let i = bucket_in p (mix_of k) + 1 in
     sym (ap (last_within Hash (From k)) (joined_cut bs i) ∙ left_out (From k) (joined (take i bs)) (joined (drop i bs)) (from_behind k (joined (drop i bs)) (cut_behind p bs count k are within)))
 
 -- ---- one bucket after the other

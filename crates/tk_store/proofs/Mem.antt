@@ -56,13 +56,13 @@ floor_more n [] g = refl
 floor_more n (h ∷ gs) g = floor_more (h.number + 1) gs g
 
 pub applied : (s t : MemStore) (n : ℕ) (cs : List Change) (first : First) (since : List Group) (hard : ℕ) → s.grows ≡ true → MemPrepared s cs → MemStands s first since hard
-    → t.order ≡ s.order → t.pairs.items ≡ s.staged.items → t.last ≡ Some n → MemStands t first (since ++ made (mem_nature s) n cs) hard
+    → t.order ≡ s.order → t.pairs ≡ s.staged → t.last ≡ Some n → MemStands t first (since ++ made (mem_nature s) n cs) hard
 applied s t n [] first since hard grows p st o e l = absurd (let g = p.grows in cc)
 applied s t n (c ∷ cs) first since hard grows p st o e l =
     let g : Group = record { number = n; changes = c ∷ cs } in
     record {
       map = rw (o, replay_more s.order since g first.records, e, p.staged, st.map) refl;
-      fit = rw (e, p.staged) (after_held s.order (c ∷ cs) s.pairs.items p.fit st.fit);
+      fit = rw (e, p.staged) (after_held s.order (c ∷ cs) s.pairs p.fit st.fit);
       rising = rw o st.rising;
       floor = rw (l, floor_more 0 since g) refl;
       synced = omega (arith, st.synced, length-append since (g ∷ []));

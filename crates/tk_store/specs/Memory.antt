@@ -1,5 +1,5 @@
 -- A store in memory, as its trait's members see it.
-use Rattle.std.specs.Prelude.{◌≡◌, ℕ, ◌+◌, ◌-◌, ◌≤◌, ◌^◌, min, false, not, List, [], length, Option, Some, None}
+use Rattle.std.specs.Prelude.{◌≡◌, ℕ, ◌+◌, ◌-◌, ◌≤◌, ◌^◌, ◌&&◌, if◌then◌else◌, min, false, not, List, [], length, Option, Some, None}
 use Rattle.tk_model.specs.declared.record.Group.{Group}
 use Rattle.tk_model.specs.declared.record.Change.{Change}
 use Rattle.tk_model.specs.Records.{after, replay, Rising, AllFit, AllHeld}
@@ -11,21 +11,21 @@ floor_of None = 0
 floor_of (Some n) = n + 1
 
 abbrev pub mem_nature : MemStore → Nature
-mem_nature s = record { order = s.order; limit = min s.room (2 ^ 40); next = 0; writable = s.writable; marks = false; extents = None; header = []; log = None }
+mem_nature s = record { order = s.order; limit = min s.room (2 ^ 40); next = 0; longest_value = 33554431; writable = s.writable; marks = false; extents = None; header = []; log = None }
 
 -- the store counts records
 abbrev pub mem_shown : MemStore → Shown
-mem_shown s = record { map = Some s.pairs.items; size = length s.pairs.items; floor = floor_of s.last; held_back = false; closed = s.closed; cost = λ k. None; needs = λ cs. Some (length (after s.order cs s.pairs.items) - length s.pairs.items); log_size = 0 }
+mem_shown s = record { map = Some s.pairs; size = length s.pairs; floor = floor_of s.last; held_back = false; closed = s.closed; ended = if s.closed && s.writable then Some s.end else None; cost = λ k. None; needs = λ cs. Some (length (after s.order cs s.pairs) - length s.pairs); log_size = 0 }
 
 -- the records that the list leads to are staged
 pub record MemPrepared (s : MemStore) (cs : List Change) : Type 0 where
-  pub staged : s.staged.items ≡ after s.order cs s.pairs.items
+  pub staged : s.staged ≡ after s.order cs s.pairs
   pub fit : AllFit cs
   pub grows : s.grows ≡ not (is_empty cs)
 
 pub record MemStands (s : MemStore) (first : First) (since : List Group) (hard : ℕ) : Type 0 where
-  pub map : s.pairs.items ≡ replay s.order since first.records
-  pub fit : AllHeld s.pairs.items
+  pub map : s.pairs ≡ replay s.order since first.records
+  pub fit : AllHeld s.pairs
   pub rising : Rising s.order first.records
   pub floor : floor_of s.last ≡ floor_after 0 since
   pub synced : hard ≤ length since

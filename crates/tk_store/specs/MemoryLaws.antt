@@ -1,5 +1,6 @@
 -- The laws of a store in memory.
-use Rattle.std.specs.Prelude.{◌≡◌, ℕ, ◌≤◌, List, length, IfSome, Some}
+use Rattle.std.specs.Prelude.{◌≡◌, ℕ, ◌≤◌, List, length, IfSome, Some, None, false}
+use Rattle.std.proofs.Common.{arith, refl}
 use Rattle.tk_model.specs.declared.record.Group.{Group}
 use Rattle.tk_model.specs.declared.record.Change.{Change}
 use Rattle.tk_model.specs.Records.{replay, Rising, AllHeld}
@@ -24,3 +25,9 @@ mem_synced s first since hard st = st.synced
 
 pub mem_by_extents : (s : MemStore) (v : ℕ) (cs : List Change) → (mem_nature s).extents ≡ Some v → (mem_shown s).needs cs ≡ Some (extents_need (mem_nature s) v cs)
 mem_by_extents s v cs e = cc
+
+pub mem_unended : (s : MemStore) → (mem_shown s).closed ≡ false → (mem_shown s).ended ≡ None
+mem_unended s unclosed = rw unclosed refl
+
+pub mem_values : (s : MemStore) → (16777215 ≤ (mem_nature s).longest_value) × ((mem_nature s).longest_value ≤ 33554431)
+mem_values s = (omega arith, omega arith)

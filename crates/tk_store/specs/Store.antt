@@ -1,7 +1,9 @@
 -- What a sequential store is, and what its calls do.
-use Rattle.std.specs.Prelude.{◌≡◌, ℕ, ◌+◌, ◌-◌, ◌*◌, ◌/◌, ◌≤◌, ◌^◌, min, max, Bool, true, false, not, ◌&&◌, ◌==◌, nat_lt, List, [], ◌∷◌, ◌++◌, length, take, drop, Option, Some, None, IfSome, Result, Ok, Err, OnOk, IsErrOf, ◌⊎◌, sum_by, if◌then◌else◌}
+use Rattle.std.specs.Prelude.{◌≡◌, ℕ, ◌+◌, ◌*◌, ◌/◌, ◌≤◌, ◌^◌, min, max, Bool, true, false, not, ◌&&◌, ◌==◌, nat_lt, List, [], ◌∷◌, ◌++◌, length, take, drop, Option, Some, None, IfSome, Result, Ok, Err, ◌⊎◌, sum_by, if◌then◌else◌}
+use Rattle.std.specs.Option.{is_some}
 use Rattle.tk_store.specs.declared.error.StoreError.{StoreError}
 use Rattle.tk_store.specs.declared.error.StoreError.TheVariants as errors
+use Rattle.tk_model.specs.Counts.{HasCause as FaultHasCause}
 use Rattle.tk_model.specs.declared.record.Order.{Order}
 use Rattle.tk_model.specs.declared.record.Pair.{Pair}
 use Rattle.tk_model.specs.declared.record.Group.{Group}
@@ -15,6 +17,8 @@ pub record Nature : Type 0 where
   pub limit : ℕ
   -- the next number of the closing part at the opening
   pub next : ℕ
+  -- the longest value that the store takes
+  pub longest_value : ℕ
   -- opened for writing; a created store was
   pub writable : Bool
   -- a group without changes is a mark
@@ -37,6 +41,8 @@ pub record Shown : Type 0 where
   pub held_back : Bool
   -- close was called since the opening
   pub closed : Bool
+  -- the next number that the file was ended with, where it was
+  pub ended : Option ℕ
   -- the most bytes that a look-up of the key takes, where told
   pub cost : List ℕ → Option ℕ
   -- the bytes that a list of changes needs, where told
@@ -81,6 +87,17 @@ abbrev pub floor_after : ℕ → List Group → ℕ
 floor_after n [] = n
 floor_after n (g ∷ gs) = floor_after (g.number + 1) gs
 
+-- a file opened for writing is ended with the next number; one that is only read stays as it is
+abbrev pub ended_by : Nature → (next : ℕ) → Option ℕ
+ended_by n next = if n.writable then Some next else None
+
+-- no key is too long for a file, and no value longer than this
+abbrev pub AllFitWithin : (longest : ℕ) → List Change → Type 0
+AllFitWithin n [] = Unit {0}
+AllFitWithin n (changes.Put p ∷ cs) = (length p.key ≤ 65535) × (length p.value ≤ n) × AllFitWithin n cs
+AllFitWithin n (changes.Drop k ∷ cs) = (length k ≤ 65535) × AllFitWithin n cs
+AllFitWithin n (changes.Clear ∷ cs) = AllFitWithin n cs
+
 abbrev pub length_of : Change → ℕ
 length_of (changes.Put p) = length p.key + length p.value
 length_of (changes.Drop k) = length k
@@ -111,15 +128,9 @@ is_empty (c ∷ cs) = false
 abbrev pub is_over : (size need limit : ℕ) → List Change → Bool
 is_over size need limit cs = nat_lt limit (size + need) && not (is_empty cs && (need == 0))
 
--- a count that never falls and stands at its greatest number
-abbrev pub Rose : ℕ → ℕ → Type 0
-Rose before now = min (before + 1) (2 ^ 64 - 1) ≤ now
-
 -- a fault comes only where the count rose
-pub record HasCause {T : Type 0} (before now : ℕ) (result : Result T StoreError) : Type 0 where
-  pub later : before ≤ now
-  pub fault : IsErrOf result errors.Fault → Rose before now
-  pub kept : OnOk result (now ≡ before)
+abbrev pub HasCause : {T : Type 0} → (before now : ℕ) → Result T StoreError → Type 0
+HasCause before now result = FaultHasCause errors.Fault before now result
 
 abbrev pub NeverFull : {T : Type 0} → Result T StoreError → Type 0
 NeverFull (Ok v) = Unit {0}
@@ -144,6 +155,12 @@ OnFull (Ok v) P = Unit {0}
 OnFull (Err errors.Fault) P = Unit {0}
 OnFull (Err (errors.Full size need limit)) P = P
 OnFull (Err errors.NoMemory) P = Unit {0}
+
+abbrev pub OnNoMemory : {T : Type 0} → Result T StoreError → Type 0 → Type 0
+OnNoMemory (Ok v) P = Unit {0}
+OnNoMemory (Err errors.Fault) P = Unit {0}
+OnNoMemory (Err (errors.Full size need limit)) P = Unit {0}
+OnNoMemory (Err errors.NoMemory) P = P
 
 -- the store's own size and what the list needs pass its limit
 pub record PassesLimit (n : Nature) (s : Shown) (cs : List Change) (size need limit : ℕ) : Type 0 where
@@ -204,3 +221,21 @@ module _ {S : Type 0} where
   -- whatever the call answered, an untorn image restores to a front of the groups and of these more
   abbrev pub LeavesSafe : (S → ℕ → ℕ → First → List Group → ℕ → Type 0) → (S → ℕ → First → List Group → ℕ → Type 0) → List Group → S → S → Type 0
   LeavesSafe stood safe more old new = (t n : ℕ) (first : First) (since : List Group) (hard : ℕ) → stood old t n first since hard → safe new t first (since ++ more) n
+
+  -- from before a look-up to after it: nothing was written, and what the store shows and stands for is as it was
+  pub record OnlyLooks (nature : S → Nature) (shown : S → Shown) (stands : S → First → List Group → ℕ → Type 0) (stood : S → ℕ → ℕ → First → List Group → ℕ → Type 0)
+      (untouched : S → S → Type 0) (moment taken : S → ℕ) (old new : S) : Type 0 where
+    pub same_nature : nature new ≡ nature old
+    pub same_shown : shown new ≡ shown old
+    pub keeps : Keeps stands old new
+    pub keeps_since : KeepsSince stood old new
+    pub writes_nothing : untouched old new
+    pub later : moment old ≤ moment new
+    pub more_taken : taken old ≤ taken new
+
+  -- from before a call to after it, whatever it answered
+  pub record GoesOn (nature : S → Nature) (shown : S → Shown) (moment taken : S → ℕ) (old new : S) : Type 0 where
+    pub same_nature : nature new ≡ nature old
+    pub tells : is_some (shown new).map ≡ is_some (shown old).map
+    pub later : moment old ≤ moment new
+    pub more_taken : taken old ≤ taken new

@@ -1,25 +1,30 @@
 //! Records in hash order, kept by bucket.
-ghost use Rattle.std.specs.Prelude.{◌≡◌, [], ◌∷◌, ◌≤◌, ◌<◌, ◌^◌, ◌+◌, ◌↔◌, length, replicate, take, drop, IsTrue, IfOk, OnOk, OnErr, MatchOption, MatchResult};
+ghost use Rattle.std.specs.Prelude.{◌≡◌, [], ◌∷◌, ◌++◌, ◌≤◌, ◌<◌, ◌^◌, ◌+◌, ◌↔◌, length, replicate, take, drop, IsTrue, IfOk, OnOk, OnErr, MatchOption, MatchResult};
 ghost use Rattle.std.specs.Option.{option_copied};
 ghost use Rattle.tk_model.specs.Hashes.{mix_of, bucket_of};
 ghost use Rattle.tk_model.specs.Places.{StandsAt, StandsNowhere, GoesAt, GoesBefore};
-ghost use Rattle.tk_model.specs.Records.{find, put, without, after_one, reaches, first_within, last_within, Rising};
+ghost use Rattle.tk_model.specs.Records.{find, put, without, after_one, first_within, last_within, Rising};
 ghost use Rattle.tk_model.specs.declared.record.Order.TheVariants.{Hash};
 ghost use Rattle.tk_store.specs.Hashed.{joined, start_of, end_of};
 
+use crate::hashed_pair::HashedPair;
+use crate::parting::Parting;
 use std::alloc::{AllocError, Global};
 use std::cmp::Ordering;
 use std::marker::Model;
+use std::mem;
 use tk_model::{
-    Bound, Bytes, Change, ListOf, NoMemory, Order, Pair, PairList, Way, bucket, compare_keys,
-    is_same, mix,
+    Bound, Bytes, Change, ListOf, NoMemory, Order, Pair, PairList, Way, bucket, is_within, mix,
 };
+
+/// The records of a bucket.
+type Bucket = ListOf<HashedPair>;
 
 /// Records in hash order, kept in `2^p` buckets.
 #[derive(Debug, Drop)]
 pub struct HashedRecords {
-    p: u8,
-    buckets: Vec<PairList>,
+    parting: Parting,
+    buckets: Vec<Bucket>,
     count: usize,
 }
 
@@ -32,7 +37,7 @@ impl Model for HashedRecords {
 
     ghost view = { λ h. joined h.buckets.items };
 
-    ghost invariant = { λ h. AreBuckets h.p h.buckets.items h.count };
+    ghost invariant = { λ h. AreBuckets h.parting h.buckets.items h.count };
 }
 
 impl Clone for HashedRecords {
@@ -41,20 +46,20 @@ impl Clone for HashedRecords {
     fn clone(&self) -> Result<HashedRecords, AllocError> {
         let buckets = copy_of_all(&self.buckets)?;
         Ok(HashedRecords {
-            p: self.p,
+            parting: self.parting,
             buckets,
             count: self.count,
         })
     }
 }
 
-fn copy_of(pairs: &PairList) -> Result<PairList, AllocError>
+fn copy_of(pairs: &Bucket) -> Result<Bucket, AllocError>
     ensures { IfOk result (λ copy. copy ≡ pairs.now) }
 {
     pairs.clone()
 }
 
-fn copy_of_all(buckets: &Vec<PairList>) -> Result<Vec<PairList>, AllocError>
+fn copy_of_all(buckets: &Vec<Bucket>) -> Result<Vec<Bucket>, AllocError>
     ensures { IfOk result (λ copies. copies.items ≡ buckets.now.items) }
 {
     let mut copies = Vec::with_capacity(*buckets.allocator(), buckets.len())?;
@@ -62,15 +67,6 @@ fn copy_of_all(buckets: &Vec<PairList>) -> Result<Vec<PairList>, AllocError>
         copies.push(copy_of(bucket)?)?;
     }
     Ok(copies)
-}
-
-/// The bucket of a key.
-fn bucket_at(key: &[u8], p: u8) -> usize
-    requires { p ≤ 24 }
-    ensures value { result ≡ bucket_of (mix_of key.now) p }
-    ensures below { result < 2 ^ p }
-{
-    bucket(mix(key), p) as usize
 }
 
 /// The number of buckets.
@@ -81,7 +77,7 @@ pub fn number_of_buckets(p: u8) -> u64
     1 << p
 }
 
-fn empty_buckets(alloc: Global, number: usize) -> Result<Vec<PairList>, NoMemory>
+fn empty_buckets(alloc: Global, number: usize) -> Result<Vec<Bucket>, NoMemory>
     ensures { IfOk result (λ buckets. buckets.items ≡ replicate number []) }
 {
     let mut buckets = Vec::with_capacity(alloc, number)?;
@@ -91,11 +87,12 @@ fn empty_buckets(alloc: Global, number: usize) -> Result<Vec<PairList>, NoMemory
     Ok(buckets)
 }
 
-fn place_of(pairs: &[Pair], key: &[u8]) -> Option<usize>
+fn place_of(pairs: &[HashedPair], hash: u64, key: &[u8]) -> Option<usize>
+    requires { hash ≡ mix_of key.now }
     ensures { MatchOption result (StandsNowhere key.now pairs.now) (StandsAt key.now pairs.now) }
 {
     for i in 0..pairs.len() {
-        if is_same(key, pairs[i].key.as_slice()) {
+        if pairs[i].has_key(hash, key) {
             return Some(i);
         }
     }
@@ -103,11 +100,12 @@ fn place_of(pairs: &[Pair], key: &[u8]) -> Option<usize>
 }
 
 /// The place of a key's record, or else the place where it belongs.
-fn place_to_put(pairs: &[Pair], key: &[u8]) -> Result<usize, usize>
+fn place_to_put(pairs: &[HashedPair], hash: u64, key: &[u8]) -> Result<usize, usize>
+    requires { hash ≡ mix_of key.now }
     ensures { MatchResult result (GoesAt Hash key.now pairs.now) (GoesBefore Hash key.now pairs.now) }
 {
     for i in 0..pairs.len() {
-        match compare_keys(&Order::Hash, key, pairs[i].key.as_slice()) {
+        match pairs[i].compare(hash, key) {
             Ordering::Less => return Err(i),
             Ordering::Equal => return Ok(i),
             Ordering::Greater => {}
@@ -117,49 +115,52 @@ fn place_to_put(pairs: &[Pair], key: &[u8]) -> Result<usize, usize>
 }
 
 /// Puts a record in, and answers how many there are then, with those of the other buckets.
-fn put_in(pairs: &mut PairList, new: Pair, count: usize) -> Result<usize, NoMemory>
+fn put_in(pairs: &mut Bucket, hash: u64, new: Pair, count: usize) -> Result<usize, NoMemory>
+    requires { hash ≡ mix_of new.key }
     ensures ok { OnOk result (pairs.new ≡ put Hash new pairs.old) }
     ensures counted { IfOk result (λ after. after + length pairs.old ≡ count + length pairs.new) }
     ensures err { OnErr result (pairs.new ≡ pairs.old) }
 {
-    match place_to_put(pairs.as_slice(), new.key.as_slice()) {
+    match place_to_put(pairs.as_slice(), hash, new.key.as_slice()) {
         Ok(i) => {
-            pairs.set(i, new);
+            pairs.set(i, HashedPair::new(hash, new));
             Ok(count)
         }
         Err(i) => {
             let Some(after) = count.checked_add(1) else {
                 return Err(NoMemory);
             };
-            pairs.insert(i, new)?;
+            pairs.insert(i, HashedPair::new(hash, new))?;
             Ok(after)
         }
     }
 }
 
 /// Takes a key's record out, and answers how many are left, with those of the other buckets.
-fn drop_in(pairs: &mut PairList, key: &[u8], count: usize) -> usize
-    requires { length pairs.old ≤ count }
+fn drop_in(pairs: &mut Bucket, hash: u64, key: &[u8], count: usize) -> usize
+    requires hash { hash ≡ mix_of key.now }
+    requires count { length pairs.old ≤ count }
     ensures rest { pairs.new ≡ without key.now pairs.old }
     ensures counted { result + length pairs.old ≡ count + length pairs.new }
 {
-    let Some(i) = place_of(pairs.as_slice(), key) else {
+    let Some(i) = place_of(pairs.as_slice(), hash, key) else {
         return count;
     };
     pairs.remove(i);
     count - 1
 }
 
-fn value_in<'a>(pairs: &'a [Pair], key: &[u8]) -> Option<&'a Bytes>
+fn value_in<'a>(pairs: &'a [HashedPair], hash: u64, key: &[u8]) -> Option<&'a Bytes>
+    requires { hash ≡ mix_of key.now }
     ensures { option_copied result ≡ find key.now pairs.now }
 {
-    match place_of(pairs, key) {
-        Some(i) => Some(&pairs[i].value),
+    match place_of(pairs, hash, key) {
+        Some(i) => Some(&pairs[i].pair().value),
         None => None,
     }
 }
 
-fn clear_all(buckets: &mut Vec<PairList>)
+fn clear_all(buckets: &mut Vec<Bucket>)
     ensures { buckets.new.items ≡ replicate (length buckets.old.items) [] }
 {
     for i in 0..buckets.len() {
@@ -167,46 +168,57 @@ fn clear_all(buckets: &mut Vec<PairList>)
     }
 }
 
-fn is_within(way: Way, bound: &Bound, key: &[u8]) -> bool
-    ensures { result ≡ reaches Hash way bound.now key.now }
+/// Puts the records of a bucket behind others.
+fn add_bucket(all: &mut Vec<Pair>, bucket: Bucket) -> Result<(), NoMemory>
+    ensures { OnOk result (all.new.items ≡ all.old.items ++ bucket) }
 {
-    match bound {
-        Bound::Edge => true,
-        Bound::Over(from) => {
-            let found = compare_keys(&Order::Hash, from.as_slice(), key);
-            match way {
-                Way::Up => found.is_lt(),
-                Way::Down => found.is_gt(),
-            }
-        }
-        Bound::From(from) => {
-            let found = compare_keys(&Order::Hash, from.as_slice(), key);
-            match way {
-                Way::Up => found.is_le(),
-                Way::Down => found.is_ge(),
-            }
-        }
+    for record in bucket.into_vec() {
+        all.push(record.into_pair())?;
     }
+    Ok(())
 }
 
-fn first_in<'a>(pairs: &'a [Pair], bound: &Bound) -> Option<&'a Pair>
+/// All records, bucket by bucket.
+fn all_of(buckets: Vec<Bucket>, count: usize) -> Result<PairList, NoMemory>
+    ensures { IfOk result (λ pairs. pairs ≡ joined buckets.items) }
+{
+    let mut all = Vec::with_capacity(*buckets.allocator(), count)?;
+    for bucket in buckets {
+        add_bucket(&mut all, bucket)?;
+    }
+    Ok(ListOf::from_vec(all))
+}
+
+/// Puts in records that stand in hash order.
+fn fill(records: &mut HashedRecords, pairs: PairList) -> Result<(), NoMemory>
+    requires empty { records.old ≡ [] }
+    requires rising { Rising Hash pairs }
+    ensures { OnOk result (records.new ≡ pairs) }
+{
+    for pair in pairs.into_vec() {
+        records.put(pair)?;
+    }
+    Ok(())
+}
+
+fn first_in<'a>(pairs: &'a [HashedPair], bound: &Bound) -> Option<&'a Pair>
     ensures { option_copied result ≡ first_within Hash bound.now pairs.now }
 {
     for i in 0..pairs.len() {
-        let pair = &pairs[i];
-        if is_within(Way::Up, bound, pair.key.as_slice()) {
+        let pair = pairs[i].pair();
+        if is_within(&Order::Hash, Way::Up, bound, pair.key.as_slice()) {
             return Some(pair);
         }
     }
     None
 }
 
-fn last_in<'a>(pairs: &'a [Pair], bound: &Bound) -> Option<&'a Pair>
+fn last_in<'a>(pairs: &'a [HashedPair], bound: &Bound) -> Option<&'a Pair>
     ensures { option_copied result ≡ last_within Hash bound.now pairs.now }
 {
     for i in (0..pairs.len()).rev() {
-        let pair = &pairs[i];
-        if is_within(Way::Down, bound, pair.key.as_slice()) {
+        let pair = pairs[i].pair();
+        if is_within(&Order::Hash, Way::Down, bound, pair.key.as_slice()) {
             return Some(pair);
         }
     }
@@ -237,7 +249,7 @@ pub fn end_bucket(bound: &Bound, p: u8) -> u64
     }
 }
 
-fn first_from<'a>(buckets: &'a [PairList], start: usize, bound: &Bound) -> Option<&'a Pair>
+fn first_from<'a>(buckets: &'a [Bucket], start: usize, bound: &Bound) -> Option<&'a Pair>
     requires { start ≤ length buckets.now }
     ensures { option_copied result ≡ first_within Hash bound.now (joined (drop start buckets.now)) }
 {
@@ -249,7 +261,7 @@ fn first_from<'a>(buckets: &'a [PairList], start: usize, bound: &Bound) -> Optio
     None
 }
 
-fn last_before<'a>(buckets: &'a [PairList], end: usize, bound: &Bound) -> Option<&'a Pair>
+fn last_before<'a>(buckets: &'a [Bucket], end: usize, bound: &Bound) -> Option<&'a Pair>
     requires { end ≤ length buckets.now }
     ensures { option_copied result ≡ last_within Hash bound.now (joined (take end buckets.now)) }
 {
@@ -267,9 +279,25 @@ impl HashedRecords {
         requires { p ≤ 24 }
         ensures { IfOk result (λ r. r ≡ []) }
     {
+        HashedRecords::under(alloc, 0, 0, p)
+    }
+
+    /// No records, and `2^p` empty buckets for keys of one bucket of so many bits: the bits that these keys share tell
+    /// nothing. Any other key may be put too.
+    pub fn under(alloc: Global, shared: u8, number: u64, p: u8) -> Result<HashedRecords, NoMemory>
+        requires shared { shared ≤ 24 }
+        requires p { p ≤ 24 }
+        ensures { IfOk result (λ r. r ≡ []) }
+    {
         let buckets = empty_buckets(alloc, number_of_buckets(p) as usize)?;
-        Ok(HashedRecords {
+        let start = number.saturating_mul(1 << p);
+        let parting = Parting {
+            depth: shared + p,
+            start,
             p,
+        };
+        Ok(HashedRecords {
+            parting,
             buckets,
             count: 0,
         })
@@ -290,7 +318,12 @@ impl HashedRecords {
     pub fn get(&self, key: &[u8]) -> Option<&Bytes>
         ensures { option_copied result ≡ find key.now self.now }
     {
-        value_in(self.buckets[bucket_at(key, self.p)].as_slice(), key)
+        let hash = mix(key);
+        value_in(
+            self.buckets[self.parting.bucket_at(hash)].as_slice(),
+            hash,
+            key,
+        )
     }
 
     /// Looks at the bucket of the key alone.
@@ -298,16 +331,18 @@ impl HashedRecords {
         ensures ok { OnOk result (self.new ≡ put Hash new self.old) }
         ensures err { OnErr result (self.new ≡ self.old) }
     {
-        let at = bucket_at(new.key.as_slice(), self.p);
-        self.count = put_in(&mut self.buckets[at], new, self.count)?;
+        let hash = mix(new.key.as_slice());
+        let at = self.parting.bucket_at(hash);
+        self.count = put_in(&mut self.buckets[at], hash, new, self.count)?;
         Ok(())
     }
 
     pub fn remove(&mut self, key: &[u8])
         ensures { self.new ≡ without key.now self.old }
     {
-        let at = bucket_at(key, self.p);
-        self.count = drop_in(&mut self.buckets[at], key, self.count);
+        let hash = mix(key);
+        let at = self.parting.bucket_at(hash);
+        self.count = drop_in(&mut self.buckets[at], hash, key, self.count);
     }
 
     pub fn clear(&mut self)
@@ -330,33 +365,58 @@ impl HashedRecords {
         Ok(())
     }
 
+    /// The records as one list.
+    pub fn into_pairs(self) -> Result<PairList, NoMemory>
+        ensures { IfOk result (λ pairs. pairs ≡ self) }
+    {
+        let HashedRecords { buckets, count, .. } = self;
+        all_of(buckets, count)
+    }
+
+    /// Takes eight times as many buckets where there are four records to each.
+    pub fn widen(&mut self) -> Result<(), NoMemory>
+        ensures { OnOk result (self.new ≡ self.old) }
+    {
+        let Parting { depth, start, p } = self.parting;
+        if p > 21 || self.count >> p < 4 {
+            return Ok(());
+        }
+        let alloc = *self.buckets.allocator();
+        let shared = depth.saturating_sub(p).min(24);
+        let wider = HashedRecords::under(alloc, shared, start >> p, p + 3)?;
+        let narrow = mem::replace(self, wider);
+        narrow.in_hash_order();
+        fill(self, narrow.into_pairs()?)
+    }
+
     /// The first record within a bound on the way up.
     pub fn first_within(&self, bound: &Bound) -> Option<&Pair>
         ensures { option_copied result ≡ first_within Hash bound.now self.now }
     {
-        let start = first_bucket(bound, self.p);
-        first_from(self.buckets.as_slice(), start as usize, bound)
+        let start = self.parting.first_bucket(bound);
+        first_from(self.buckets.as_slice(), start, bound)
     }
 
     /// The first record within a bound on the way down.
     pub fn last_within(&self, bound: &Bound) -> Option<&Pair>
         ensures { option_copied result ≡ last_within Hash bound.now self.now }
     {
-        let end = end_bucket(bound, self.p);
-        last_before(self.buckets.as_slice(), end as usize, bound)
+        let end = self.parting.end_bucket(bound);
+        last_before(self.buckets.as_slice(), end, bound)
     }
 
     /// The records stand in hash order.
     pub fn in_hash_order(&self)
         ensures { Rising Hash self.now }
     {
-        let _ = &self.p;
+        let _ = &self.parting;
     }
 }
 
 #[cfg(test)]
 mod tests {
     use super::*;
+    use tk_model::is_same;
 
     fn bytes(alloc: Global, text: &[u8]) -> Result<Bytes, NoMemory>
         ensures { IfOk result (λ b. b ≡ text.now) }
@@ -393,15 +453,19 @@ mod tests {
     #[test]
     fn keys_stand_by_their_hash(rt: HostRuntime) {
         // The mixed hash of b is 0x6e67.., that of a 0x82a2..
-        let mut records = HashedRecords::new(rt.alloc(), 4).expect(&rt, "memory");
-        for text in [b"a", b"b"] {
-            let new = pair(rt.alloc(), text, b"1").expect(&rt, "memory");
-            records.apply(Change::Put(new)).expect(&rt, "memory");
+        for (shared, number) in [(0, 0), (1, 0), (1, 1)] {
+            let mut records = HashedRecords::under(rt.alloc(), shared, number, 4).expect(
+                &rt, "memory",
+            );
+            for text in [b"a", b"b"] {
+                let new = pair(rt.alloc(), text, b"1").expect(&rt, "memory");
+                records.apply(Change::Put(new)).expect(&rt, "memory");
+            }
+            let first = records.first_within(&Bound::Edge).expect(&rt, "a record");
+            let last = records.last_within(&Bound::Edge).expect(&rt, "a record");
+            assert!(rt; is_same(first.key.as_slice(), b"b"));
+            assert!(rt; is_same(last.key.as_slice(), b"a"));
         }
-        let first = records.first_within(&Bound::Edge).expect(&rt, "a record");
-        let last = records.last_within(&Bound::Edge).expect(&rt, "a record");
-        assert!(rt; is_same(first.key.as_slice(), b"b"));
-        assert!(rt; is_same(last.key.as_slice(), b"a"));
     }
 
     #[test]

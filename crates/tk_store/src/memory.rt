@@ -1,23 +1,26 @@
 ghost use Rattle.std.specs.Prelude.{◌≡◌, ◌+◌, ◌≤◌, [], IfOk, min, ◌^◌, true, false};
 ghost use Rattle.std.specs.Option.{option_copied};
 
-use crate::records::{copy_pair, first_pair, last_pair, passes, value_at, with_all};
-use crate::{SeqStore, StoreError};
+use crate::records::with_all;
+use crate::{SeqStore, StoreError, is_over};
 use std::alloc::Global;
 use std::mem;
-use tk_model::{Bound, Bytes, ChangeList, NoMemory, Order, Pair};
+use tk_model::{
+    Bound, Bytes, ChangeList, NoMemory, Order, Pair, PairList, copy_pair, first_pair, last_pair,
+    value_at,
+};
 
 /// A store in memory.
 #[derive(Drop)]
 pub struct MemStore {
-    alloc: Global,
     order: Order,
     room: u64,
     writable: bool,
     last: Option<u64>,
     closed: bool,
-    pairs: Vec<Pair>,
-    staged: Vec<Pair>,
+    end: u64,
+    pairs: PairList,
+    staged: PairList,
     grows: bool,
 }
 
@@ -35,24 +38,24 @@ impl MemStore {
         ensures limit { (mem_nature result).limit ≡ min room (2 ^ 40) }
     {
         MemStore {
-            alloc,
             order,
             room,
             writable: true,
             last: None,
             closed: false,
-            pairs: Vec::new(alloc),
-            staged: Vec::new(alloc),
+            end: 0,
+            pairs: PairList::new(alloc),
+            staged: PairList::new(alloc),
             grows: false,
         }
     }
 }
 
-fn copied_pair(alloc: Global, found: Option<&Pair>) -> Result<Option<Pair>, NoMemory>
+fn copied_pair(found: Option<&Pair>) -> Result<Option<Pair>, NoMemory>
     ensures { IfOk result (λ o. o ≡ option_copied found.entry) }
 {
     match found {
-        Some(pair) => Ok(Some(copy_pair(alloc, pair)?)),
+        Some(pair) => Ok(Some(copy_pair(pair)?)),
         None => Ok(None),
     }
 }
@@ -60,7 +63,7 @@ fn copied_pair(alloc: Global, found: Option<&Pair>) -> Result<Option<Pair>, NoMe
 impl SeqStore for MemStore {
     ghost use Rattle.std.specs.Prelude.{◌≡◌, true, Bool};
     ghost use Rattle.tk_store.specs.Memory.{MemStands, MemPrepared, mem_shown, mem_nature};
-    ghost use Rattle.tk_store.specs.MemoryLaws.{mem_replays, mem_rising, mem_held, mem_numbered, mem_synced, mem_by_extents};
+    ghost use Rattle.tk_store.specs.MemoryLaws.{mem_replays, mem_rising, mem_held, mem_numbered, mem_synced, mem_by_extents, mem_unended, mem_values};
 
     ghost nature = { mem_nature };
 
@@ -104,6 +107,14 @@ impl SeqStore for MemStore {
 
     ghost safe_less = { λ s t first since more m n less safe. tt };
 
+    ghost unended = { mem_unended };
+
+    ghost values = { mem_values };
+
+    ghost untouched_same = { λ s. Prim.cc };
+
+    ghost untouched_then = { λ a b c p q. Prim.cc };
+
     ghost tells_need = { λ s changes told. Prim.cc };
 
     ghost by_extents = { mem_by_extents };
@@ -117,7 +128,7 @@ impl SeqStore for MemStore {
     }
 
     fn size(&self) -> u64 {
-        self.pairs.as_slice().len() as u64
+        self.pairs.len() as u64
     }
 
     fn limit(&self) -> u64 {
@@ -133,11 +144,11 @@ impl SeqStore for MemStore {
     }
 
     fn count(&self) -> u64 {
-        self.pairs.as_slice().len() as u64
+        self.pairs.len() as u64
     }
 
     fn get(&mut self, key: &[u8], out: &mut Bytes) -> Result<bool, StoreError> {
-        match value_at(&self.pairs, key) {
+        match value_at(self.pairs.as_slice(), key) {
             Some(value) => {
                 out.clear();
                 out.extend(value.as_slice())?;
@@ -149,7 +160,7 @@ impl SeqStore for MemStore {
 
     #[tactic(auto, using(crate::proofs::Mem::found_fits))]
     fn get_into(&mut self, key: &[u8], into: &mut [u8]) -> Result<Option<u32>, StoreError> {
-        match value_at(&self.pairs, key) {
+        match value_at(self.pairs.as_slice(), key) {
             Some(value) => {
                 let n = into.len().min(value.len());
                 into[..n].copy_from_slice(&value.as_slice()[..n]);
@@ -160,32 +171,31 @@ impl SeqStore for MemStore {
     }
 
     fn next(&mut self, bound: &Bound) -> Result<Option<Pair>, StoreError> {
-        let found = first_pair(&self.pairs, &self.order, bound);
-        Ok(copied_pair(self.alloc, found)?)
+        let found = first_pair(self.pairs.as_slice(), &self.order, bound);
+        Ok(copied_pair(found)?)
     }
 
     fn prev(&mut self, bound: &Bound) -> Result<Option<Pair>, StoreError> {
-        let found = last_pair(&self.pairs, &self.order, bound);
-        Ok(copied_pair(self.alloc, found)?)
+        let found = last_pair(self.pairs.as_slice(), &self.order, bound);
+        Ok(copied_pair(found)?)
     }
 
     fn check_group(&mut self, changes: &ChangeList) -> Result<u64, StoreError> {
-        let staged = with_all(self.alloc, &self.order, &self.pairs, changes.as_slice())?;
-        let size = self.pairs.as_slice().len() as u64;
-        Ok((staged.as_slice().len() as u64).saturating_sub(size))
+        let staged = with_all(&self.order, &self.pairs, changes.as_slice())?;
+        let size = self.pairs.len() as u64;
+        Ok((staged.len() as u64).saturating_sub(size))
     }
 
     fn reserve_group(&mut self, changes: &ChangeList) -> Result<(), StoreError> {
-        let staged = with_all(self.alloc, &self.order, &self.pairs, changes.as_slice())?;
-        let size = self.pairs.as_slice().len() as u64;
-        let need = (staged.as_slice().len() as u64).saturating_sub(size);
+        let staged = with_all(&self.order, &self.pairs, changes.as_slice())?;
+        let size = self.pairs.len() as u64;
+        let need = (staged.len() as u64).saturating_sub(size);
         let limit = self.room.min(1 << 40);
-        let empty = changes.len() == 0;
-        if passes(size, need, limit, empty) {
+        if is_over(size, need, limit, changes) {
             return Err(StoreError::Full { size, need, limit });
         }
         self.staged = staged;
-        self.grows = !empty;
+        self.grows = !changes.is_empty();
         Ok(())
     }
 
@@ -202,8 +212,9 @@ impl SeqStore for MemStore {
         Ok(())
     }
 
-    fn close(&mut self, _next: u64) -> Result<(), StoreError> {
+    fn close(&mut self, next: u64) -> Result<(), StoreError> {
         self.closed = true;
+        self.end = next;
         Ok(())
     }
 }

@@ -2,10 +2,10 @@ ghost use Rattle.std.specs.Prelude.{◌≡◌, ◌≤◌, ◌+◌, ◌++◌, ◌
 ghost use Rattle.std.specs.Option.{is_some, option_map, option_copied};
 ghost use Rattle.tk_model.specs.declared.record.Action.TheVariants.{Keep};
 ghost use Rattle.tk_model.specs.declared.record.Group.{Group};
-ghost use Rattle.tk_model.specs.Records.{find, after, AllFit, IsClearAlone};
+ghost use Rattle.tk_model.specs.Records.{find, after, IsClearAlone};
 ghost use Rattle.tk_model.specs.Entries.{group_of, touched};
 ghost use Rattle.tk_proc.specs.Runs.{short, short_status, action_changes};
-ghost use Rattle.tk_store.specs.Store.{First, made, floor_after, extent_of, HasCause, UnlessFault, OnFull, Keeps, KeepsSince, LeavesSafe, IsWhole, TellsFull, SameContents};
+ghost use Rattle.tk_store.specs.Store.{First, made, floor_after, AllFitWithin, extent_of, HasCause, UnlessFault, OnFull, Keeps, KeepsSince, LeavesSafe, IsWhole, TellsFull, SameContents, OnlyLooks};
 ghost use Rattle.tk_store.specs.OneRecord.{call_changes, TurnsTo, TellsFullOfChanges};
 
 use crate::{SeqStore, StoreError};
@@ -26,7 +26,7 @@ fn changes_of(
 ) -> Result<ChangeList, NoMemory>
     requires { length key.now ≤ 65535 }
     ensures net { IfOk result (λ cs. cs ≡ action_changes key.now (option_copied was.entry) (short action)) }
-    ensures fit { IfOk result AllFit }
+    ensures fit { IfOk result (AllFitWithin 16777215) }
     ensures alone { IfOk result IsClearAlone }
 {
     let mut changes = ListOf::new(alloc);
@@ -67,7 +67,7 @@ fn put_changes<S: SeqStore>(
     requires whole { IsWhole S.stands store.old }
     requires open { (S.shown store.old).closed ≡ false }
     requires alone { IsClearAlone changes.now }
-    requires fit { AllFit changes.now }
+    requires fit { AllFitWithin 16777215 changes.now }
     requires may { (changes.now ≡ []) ⊎ (((S.nature store.old).writable ≡ true) × ((S.shown store.old).floor ≤ number)) }
     ensures map { OnOk result ((S.shown store.new).map ≡ option_map (after (S.nature store.old).order changes.now) (S.shown store.old).map) }
     ensures floor { OnOk result ((S.shown store.new).floor ≡ floor_after (S.shown store.old).floor (group_of number changes.now)) }
@@ -128,6 +128,8 @@ pub fn run_on<S: SeqStore, P: RecordProcessor>(
     ensures whole { UnlessFault result (IsWhole S.stands store.new) }
     ensures refused { OnErr result (UnlessFault result (Keeps S.stands store.old store.new × KeepsSince S.stood store.old store.new × SameContents (S.shown store.old) (S.shown store.new))) }
     ensures unchanged { OnFull result (S.shown store.new ≡ S.shown store.old) }
+    ensures looks { IfSome (S.shown store.old).map (λ m. call_changes P.acts p.old key.now m ≡ [] →
+        OnlyLooks S.nature S.shown S.stands S.stood S.untouched S.moment S.taken_count store.old store.new) }
     ensures reads { (S.nature store.old).writable ≡ false → S.untouched store.old store.new }
     ensures nature { S.nature store.new ≡ S.nature store.old }
     ensures open { (S.shown store.new).closed ≡ false }

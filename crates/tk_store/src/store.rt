@@ -3,8 +3,10 @@ ghost use Rattle.std.specs.Option.{is_some, option_map};
 ghost use Rattle.tk_model.specs.declared.record.Group.{Group};
 ghost use Rattle.tk_model.specs.declared.record.Change.{Change};
 ghost use Rattle.tk_model.specs.declared.record.Pair.{Pair};
-ghost use Rattle.tk_model.specs.Records.{find, first_within, last_within, after, replay, Rising, IsClearAlone, AllFit, AllHeld};
-ghost use Rattle.tk_store.specs.Store.{Nature, Shown, First, made, floor_after, extents_need, HasCause, NeverFull, OkOrFault, UnlessFault, OnFull, TellsFull, Gives, GivesInto, SameContents, IsWhole, Keeps, KeepsSince, LeavesSafe};
+ghost use Rattle.tk_model.specs.Records.{find, first_within, last_within, after, replay, Rising, IsClearAlone, AllHeld};
+ghost use Rattle.tk_store.specs.Store.{Nature, Shown, First, made, floor_after, extents_need, AllFitWithin, ended_by};
+ghost use Rattle.tk_store.specs.Store.{HasCause, NeverFull, OkOrFault, UnlessFault, OnFull, OnNoMemory, TellsFull};
+ghost use Rattle.tk_store.specs.Store.{Gives, GivesInto, SameContents, IsWhole, Keeps, KeepsSince, LeavesSafe, OnlyLooks, GoesOn};
 
 use crate::StoreError;
 use tk_model::{Bound, Bytes, ChangeList, Order, Pair};
@@ -23,7 +25,7 @@ pub trait SeqStore {
     /// A list of changes is prepared.
     ghost prepared: { Self → List Change → Type 0 };
 
-    /// The moment, as a number that doesn't fall.
+    /// The moment, as one number that doesn't fall: of a store over several disks the sum of theirs.
     ghost moment: { Self → ℕ };
 
     /// At each moment since a time every untorn image restores to the opening followed by a front of these groups, at least so many of them.
@@ -65,33 +67,21 @@ pub trait SeqStore {
     fn count(&self) -> u64
         ensures { IsWhole stands self.now → IfSome (shown self.now).map (λ m. result ≡ length m) };
 
-    /// Answers as the records do.
+    /// Answers as the records do. An error may leave any bytes in the output.
     fn get(&mut self, key: &[u8], out: &mut Bytes) -> Result<bool, StoreError>
         requires whole { IsWhole stands self.old }
         ensures value { IfSome (shown self.old).map (λ m. IfOk result (Gives (find key.now m) out.old out.new)) }
         ensures cost { IfSome ((shown self.old).cost key.now) (λ most. taken_count self.new ≤ taken_count self.old + most) }
-        ensures nature { nature self.new ≡ nature self.old }
-        ensures shown { shown self.new ≡ shown self.old }
-        ensures stands { Keeps stands self.old self.new }
-        ensures since { KeepsSince stood self.old self.new }
-        ensures time { moment self.old ≤ moment self.new }
-        ensures reads { (nature self.old).writable ≡ false → untouched self.old self.new }
-        ensures taken { taken_count self.old ≤ taken_count self.new }
+        ensures looks { OnlyLooks nature shown stands stood untouched moment taken_count self.old self.new }
         ensures cause { HasCause (fault_count self.old) (fault_count self.new) result }
         ensures never { NeverFull result };
 
-    /// Copies as many bytes as fit, and answers the value's length.
+    /// Copies as many bytes as fit, and answers the value's length. An error may leave any bytes there.
     fn get_into(&mut self, key: &[u8], into: &mut [u8]) -> Result<Option<u32>, StoreError>
         requires whole { IsWhole stands self.old }
         ensures value { IfSome (shown self.old).map (λ m. IfOk result (GivesInto (find key.now m) into.old into.new)) }
         ensures cost { IfSome ((shown self.old).cost key.now) (λ most. taken_count self.new ≤ taken_count self.old + most) }
-        ensures nature { nature self.new ≡ nature self.old }
-        ensures shown { shown self.new ≡ shown self.old }
-        ensures stands { Keeps stands self.old self.new }
-        ensures since { KeepsSince stood self.old self.new }
-        ensures time { moment self.old ≤ moment self.new }
-        ensures reads { (nature self.old).writable ≡ false → untouched self.old self.new }
-        ensures taken { taken_count self.old ≤ taken_count self.new }
+        ensures looks { OnlyLooks nature shown stands stood untouched moment taken_count self.old self.new }
         ensures cause { HasCause (fault_count self.old) (fault_count self.new) result }
         ensures never { NeverFull result };
 
@@ -99,13 +89,7 @@ pub trait SeqStore {
     fn next(&mut self, bound: &Bound) -> Result<Option<Pair>, StoreError>
         requires whole { IsWhole stands self.old }
         ensures value { IfSome (shown self.old).map (λ m. IfOk result (λ found. found ≡ first_within (nature self.old).order bound.now m)) }
-        ensures nature { nature self.new ≡ nature self.old }
-        ensures shown { shown self.new ≡ shown self.old }
-        ensures stands { Keeps stands self.old self.new }
-        ensures since { KeepsSince stood self.old self.new }
-        ensures time { moment self.old ≤ moment self.new }
-        ensures reads { (nature self.old).writable ≡ false → untouched self.old self.new }
-        ensures taken { taken_count self.old ≤ taken_count self.new }
+        ensures looks { OnlyLooks nature shown stands stood untouched moment taken_count self.old self.new }
         ensures cause { HasCause (fault_count self.old) (fault_count self.new) result }
         ensures never { NeverFull result };
 
@@ -113,13 +97,7 @@ pub trait SeqStore {
     fn prev(&mut self, bound: &Bound) -> Result<Option<Pair>, StoreError>
         requires whole { IsWhole stands self.old }
         ensures value { IfSome (shown self.old).map (λ m. IfOk result (λ found. found ≡ last_within (nature self.old).order bound.now m)) }
-        ensures nature { nature self.new ≡ nature self.old }
-        ensures shown { shown self.new ≡ shown self.old }
-        ensures stands { Keeps stands self.old self.new }
-        ensures since { KeepsSince stood self.old self.new }
-        ensures time { moment self.old ≤ moment self.new }
-        ensures reads { (nature self.old).writable ≡ false → untouched self.old self.new }
-        ensures taken { taken_count self.old ≤ taken_count self.new }
+        ensures looks { OnlyLooks nature shown stands stood untouched moment taken_count self.old self.new }
         ensures cause { HasCause (fault_count self.old) (fault_count self.new) result }
         ensures never { NeverFull result };
 
@@ -127,15 +105,9 @@ pub trait SeqStore {
     fn check_group(&mut self, changes: &ChangeList) -> Result<u64, StoreError>
         requires whole { IsWhole stands self.old }
         requires alone { IsClearAlone changes.now }
-        requires fit { AllFit changes.now }
+        requires fit { AllFitWithin (nature self.old).longest_value changes.now }
         ensures value { IfSome ((shown self.old).needs changes.now) (λ need. IfOk result (λ n. n ≡ need)) }
-        ensures nature { nature self.new ≡ nature self.old }
-        ensures shown { shown self.new ≡ shown self.old }
-        ensures stands { Keeps stands self.old self.new }
-        ensures since { KeepsSince stood self.old self.new }
-        ensures time { moment self.old ≤ moment self.new }
-        ensures reads { (nature self.old).writable ≡ false → untouched self.old self.new }
-        ensures taken { taken_count self.old ≤ taken_count self.new }
+        ensures looks { OnlyLooks nature shown stands stood untouched moment taken_count self.old self.new }
         ensures cause { HasCause (fault_count self.old) (fault_count self.new) result }
         ensures never { NeverFull result };
 
@@ -144,11 +116,10 @@ pub trait SeqStore {
         requires whole { IsWhole stands self.old }
         requires open { (shown self.old).closed ≡ false }
         requires alone { IsClearAlone changes.now }
-        requires fit { AllFit changes.now }
+        requires fit { AllFitWithin (nature self.old).longest_value changes.now }
         requires writable { (nature self.old).writable ≡ false → changes.now ≡ [] }
         ensures full { TellsFull (nature self.old) (shown self.old) changes.now result }
         ensures prepared { OnOk result (prepared self.new changes.now) }
-        ensures nature { nature self.new ≡ nature self.old }
         ensures open { (shown self.new).closed ≡ false }
         ensures contents { UnlessFault result (SameContents (shown self.old) (shown self.new)) }
         ensures refused { OnFull result (shown self.new ≡ shown self.old) }
@@ -156,10 +127,8 @@ pub trait SeqStore {
         ensures stands { UnlessFault result (Keeps stands self.old self.new) }
         ensures since { UnlessFault result (KeepsSince stood self.old self.new) }
         ensures safe { LeavesSafe stood safe [] self.old self.new }
-        ensures told { is_some (shown self.new).map ≡ is_some (shown self.old).map }
-        ensures time { moment self.old ≤ moment self.new }
+        ensures goes_on { GoesOn nature shown moment taken_count self.old self.new }
         ensures reads { (nature self.old).writable ≡ false → untouched self.old self.new }
-        ensures taken { taken_count self.old ≤ taken_count self.new }
         ensures cause { HasCause (fault_count self.old) (fault_count self.new) result };
 
     /// Makes the prepared group. After a fault the store must be given up.
@@ -180,12 +149,9 @@ pub trait SeqStore {
         ensures since { (changes : List Change) → prepared self.old changes → (t n : ℕ) (first : First) (since : List Group) (hard : ℕ) → stood self.old t n first since hard
             → OnOk result (stood self.new t n first (since ++ made (nature self.old) number changes) hard) }
         ensures safe { (changes : List Change) → prepared self.old changes → LeavesSafe stood safe (made (nature self.old) number changes) self.old self.new }
-        ensures told { is_some (shown self.new).map ≡ is_some (shown self.old).map }
-        ensures nature { nature self.new ≡ nature self.old }
         ensures open { (shown self.new).closed ≡ false }
-        ensures time { moment self.old ≤ moment self.new }
+        ensures goes_on { GoesOn nature shown moment taken_count self.old self.new }
         ensures reads { (nature self.old).writable ≡ false → prepared self.old [] → untouched self.old self.new }
-        ensures taken { taken_count self.old ≤ taken_count self.new }
         ensures cause { HasCause (fault_count self.old) (fault_count self.new) result }
         ensures answers { OkOrFault result };
 
@@ -200,12 +166,9 @@ pub trait SeqStore {
         ensures since { (t n : ℕ) (first : First) (since : List Group) (synced : ℕ) → stood self.old t n first since synced
             → OnOk result (stood self.new t n first since (if hard then length since else synced)) }
         ensures safe { LeavesSafe stood safe [] self.old self.new }
-        ensures told { is_some (shown self.new).map ≡ is_some (shown self.old).map }
-        ensures nature { nature self.new ≡ nature self.old }
         ensures open { (shown self.new).closed ≡ false }
-        ensures time { moment self.old ≤ moment self.new }
+        ensures goes_on { GoesOn nature shown moment taken_count self.old self.new }
         ensures reads { (nature self.old).writable ≡ false → untouched self.old self.new }
-        ensures taken { taken_count self.old ≤ taken_count self.new }
         ensures cause { HasCause (fault_count self.old) (fault_count self.new) result }
         ensures answers { OkOrFault result };
 
@@ -217,16 +180,16 @@ pub trait SeqStore {
         requires below { (nature self.old).writable ≡ true → next < 2 ^ 64 - 1 }
         ensures stands { (first : First) (since : List Group) (hard : ℕ) → stands self.old first since hard
             → OnOk result (stands self.new first (since ++ made (nature self.old) next []) (length (since ++ made (nature self.old) next []))) }
-        ensures map { OnOk result ((shown self.new).map ≡ (shown self.old).map) }
+        ensures map { UnlessFault result ((shown self.new).map ≡ (shown self.old).map) }
         ensures since { (t n : ℕ) (first : First) (since : List Group) (hard : ℕ) → stood self.old t n first since hard
             → OnOk result (stood self.new t n first (since ++ made (nature self.old) next []) (length (since ++ made (nature self.old) next []))) }
         ensures safe { LeavesSafe stood safe (made (nature self.old) next []) self.old self.new }
-        ensures told { is_some (shown self.new).map ≡ is_some (shown self.old).map }
-        ensures nature { nature self.new ≡ nature self.old }
         ensures closed { (shown self.new).closed ≡ true }
-        ensures time { moment self.old ≤ moment self.new }
+        ensures ended { OnOk result ((shown self.new).ended ≡ ended_by (nature self.old) next) }
+        ensures unended { OnErr result ((shown self.new).ended ≡ None) }
+        ensures kept { OnNoMemory result (Keeps stands self.old self.new × KeepsSince stood self.old self.new) }
+        ensures goes_on { GoesOn nature shown moment taken_count self.old self.new }
         ensures reads { (nature self.old).writable ≡ false → untouched self.old self.new }
-        ensures taken { taken_count self.old ≤ taken_count self.new }
         ensures cause { HasCause (fault_count self.old) (fault_count self.new) result }
         ensures never { NeverFull result };
 
@@ -254,6 +217,18 @@ pub trait SeqStore {
     ghost stood_safe: { (s : Self) (t n : ℕ) (first : First) (since : List Group) (hard : ℕ) → stood s t n first since hard → safe s t first since n };
 
     ghost safe_less: { (s : Self) (t : ℕ) (first : First) (since more : List Group) (m n : ℕ) → m ≤ n → safe s t first since n → safe s t first (since ++ more) m };
+
+    /// A store that is open was not ended.
+    ghost unended: { (s : Self) → (shown s).closed ≡ false → (shown s).ended ≡ None };
+
+    /// A store takes each value that a call stores, and no value that is too long for a file.
+    ghost values: { (s : Self) → (16777215 ≤ (nature s).longest_value) × ((nature s).longest_value ≤ 33554431) };
+
+    /// Nothing was written from a state to itself.
+    ghost untouched_same: { (s : Self) → untouched s s };
+
+    /// Nothing was written in two steps where nothing was in either.
+    ghost untouched_then: { (a b c : Self) → untouched a b → untouched b c → untouched a c };
 
     /// A store that tells its records tells what a list of changes needs.
     ghost tells_need: { (s : Self) (changes : List Change) → is_some (shown s).map ≡ true → is_some ((shown s).needs changes) ≡ true };

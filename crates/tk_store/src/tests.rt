@@ -1,8 +1,8 @@
 ghost use Rattle.std.specs.Prelude.{◌≡◌, ◌≤◌, [], ◌∷◌, length, IfSome, IfOk, true, false};
 ghost use Rattle.tk_model.specs.declared.record.Change.TheVariants.{Put};
-ghost use Rattle.tk_model.specs.Records.{find, AllFit, IsClearAlone};
+ghost use Rattle.tk_model.specs.Records.{find, IsClearAlone};
 ghost use Rattle.tk_proc.specs.Replies.{get_reply, set_reply, remove_reply};
-ghost use Rattle.tk_store.specs.Store.{IsWhole};
+ghost use Rattle.tk_store.specs.Store.{IsWhole, AllFitWithin};
 ghost use Rattle.tk_store.specs.OneRecord.{reply_status};
 
 use super::*;
@@ -138,7 +138,7 @@ fn writes<S: SeqStore>(store: &mut S, changes: &ChangeList) -> Result<u64, Store
     requires whole { IsWhole S.stands store.old }
     requires open { (S.shown store.old).closed ≡ false }
     requires alone { IsClearAlone changes.now }
-    requires fit { AllFit changes.now }
+    requires fit { AllFitWithin (S.nature store.old).longest_value changes.now }
     requires writable { (S.nature store.old).writable ≡ true }
     requires number { (S.shown store.old).floor ≤ 5 }
 {

@@ -7,13 +7,13 @@ use Rattle.tk_append.proofs.blocks.put_record.Goals as goal
 pub flush_piece-requires-clause-end : goal.flush_piece-requires-clause-end
 flush_piece-requires-clause-end g c =
     let grown = length-grown _ _ _ _ _ c.in_ok-write_block.ensures.ok in
-    let same : extent_for (44 + length c.as_slice.result.now + length c.as_slice-2.result.now) ≡ extent_of (body_of 0 (Put c.args.pair.now) c.args.last) =
+    let same : extent_for (44 + length c.as_slice.result.now + length c.as_slice-2.result.now) ≡ extent_of (body_of c.args.number (Put c.args.pair.now) c.args.last) =
     ap (λ k. extent_for (44 + length k + length c.as_slice-2.result.now)) c.as_slice.ensures ∙ ap (λ v. extent_for (44 + length c.args.pair.now.key + length v)) c.as_slice-2.ensures in
     omega (arith, grown, same, c.requires.end)
 
 pub returns-clause-end : goal.returns-clause-end
 returns-clause-end g c =
     let grown = length-grown _ _ _ _ _ c.in_ok-write_block.ensures.ok in
-    let same : extent_for (44 + length c.as_slice.result.now + length c.as_slice-2.result.now) ≡ extent_of (body_of 0 (Put c.args.pair.now) c.args.last) =
+    let same : extent_for (44 + length c.as_slice.result.now + length c.as_slice-2.result.now) ≡ extent_of (body_of c.args.number (Put c.args.pair.now) c.args.last) =
     ap (λ k. extent_for (44 + length k + length c.as_slice-2.result.now)) c.as_slice.ensures ∙ ap (λ v. extent_for (44 + length c.args.pair.now.key + length v)) c.as_slice-2.ensures in
     omega (arith, grown, same, c.in_ok-flush_piece.ensures.end)

@@ -1,4 +1,5 @@
 use Rattle.std.proofs.Common.{◌≡◌, ℕ, ◌+◌, List, ◌++◌, length, take, sym, ◌∙◌, ap, subst, arith, length-append}
+use Rattle.tk_append.proofs.Nameless.{nameless_joined}
 use Rattle.tk_append.specs.Pieces.{Holds, words_text}
 use Rattle.tk_append.proofs.PiecesSteps.{holds_more, words_text-more}
 use Rattle.tk_append.proofs.blocks.put_words.Goals as goal
@@ -16,6 +17,11 @@ loop-word-preserved g c =
           (holds_more (g.D.Disk.image c.loop-word.disk) c.loop-word.at c.loop-word.waiting bytes (text ++ words_text (take i c.args.words.now)) (c.loop-word.invariant.text text h))));
       here = c.in_ok-flush_piece.ensures.here;
       end = omega (arith, c.in_ok-flush_piece.ensures.end, ap length c.in_ok-extend.ensures.ok, length-append c.loop-word.waiting bytes, eight, c.loop-word.invariant.end);
+      behind = omega (arith, c.loop-word.invariant.behind, c.in_ok-flush_piece.ensures.front);
+      nameless = nameless_joined g.D.Disk.past g.D.Disk.moment g.D.Disk.left_with _ _ _ c.loop-word.invariant.nameless c.flush_piece.ensures.nameless;
       told = c.in_ok-flush_piece.ensures.told ∙ c.loop-word.invariant.told;
       count = c.in_ok-flush_piece.ensures.cause.kept ∙ c.loop-word.invariant.count;
     }
+
+pub returns-in_err-flush_piece-clause-nameless : goal.returns-in_err-flush_piece-clause-nameless
+returns-in_err-flush_piece-clause-nameless g c = nameless_joined g.D.Disk.past g.D.Disk.moment g.D.Disk.left_with _ _ _ c.loop-word.invariant.nameless c.flush_piece.ensures.nameless

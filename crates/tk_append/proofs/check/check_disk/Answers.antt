@@ -1,6 +1,8 @@
-use Rattle.std.proofs.Common.{◌≡◌, ◌≤◌, ◌^◌, ◌+◌, ◌*◌, ℕ, List, ◌∙◌, subst, length, arith}
+use Rattle.std.proofs.Common.{◌≡◌, ◌≤◌, ◌^◌, ◌+◌, ◌*◌, ℕ, List, ◌∙◌, sym, subst, length, arith}
 use Rattle.std.specs.Prelude.{Option, IfSome}
 use Rattle.std.proofs.Math.Nat.{pow-le-pow_right}
+use Rattle.tk_append.specs.Chains.{HeadsAre}
+use Rattle.tk_disk.proofs.Moments.{reads_joined}
 use Rattle.tk_append.specs.Opening.{Ends, first_fault, end_fault}
 use Rattle.tk_append.specs.Log.{TellsCause}
 use Rattle.tk_append.specs.Walked.{WalkedAll, WalkFails}
@@ -53,4 +55,19 @@ returns-clause-closed g c =
     let all : WalkedAll image found.head c.args.shard found.closing.size walker = subst (λ (o : Option (List ℕ)). WalkedAll o found.head c.args.shard found.closing.size walker) c.read_front.ensures.image c.in_ok-walker.ensures.walked in
     let ends : HasHeads image found.head all.w found.closing c.args.writable =
     subst (λ (o : Option (List ℕ)). HasHeads o found.head all.w found.closing c.args.writable) (c.walk_file.ensures.image ∙ c.read_front.ensures.image) (c.in_ok-check_end.ensures.ends found.head found.closing.size all.w all.at) in
-    closed_on image c.args.kinds.now c.args.writable c.args.shard found walker c.in_ok-found.ensures.front all ends
+    closed_on image c.args.kinds.now c.args.writable c.args.shard found walker c.into_heads-heads.result.items c.in_ok-found.ensures.front all ends
+    (subst (λ (v : _). HeadsAre found.head.p v.items all.w.blocks) (sym c.into_heads-heads.ensures) (c.in_ok-check_end.ensures.heads found.head.p found.closing.size all.w all.at))
+
+pub returns-in_err-walker-clause-still : goal.returns-in_err-walker-clause-still
+returns-in_err-walker-clause-still g c =
+    reads_joined g.D.Disk.may_leave g.D.Disk.moment g.D.Disk.left_since g.D.Disk.past g.D.Disk.left_with g.met.D.Disk.counts_now g.met.D.Disk.counts_with _ _ _ c.read_front.ensures.still c.walk_file.ensures.still
+
+pub returns-in_err-check_end-clause-still : goal.returns-in_err-check_end-clause-still
+returns-in_err-check_end-clause-still g c =
+    reads_joined g.D.Disk.may_leave g.D.Disk.moment g.D.Disk.left_since g.D.Disk.past g.D.Disk.left_with g.met.D.Disk.counts_now g.met.D.Disk.counts_with _ _ _
+    (reads_joined g.D.Disk.may_leave g.D.Disk.moment g.D.Disk.left_since g.D.Disk.past g.D.Disk.left_with g.met.D.Disk.counts_now g.met.D.Disk.counts_with _ _ _ c.read_front.ensures.still c.walk_file.ensures.still) c.check_end.ensures.still
+
+pub returns-clause-still : goal.returns-clause-still
+returns-clause-still g c =
+    reads_joined g.D.Disk.may_leave g.D.Disk.moment g.D.Disk.left_since g.D.Disk.past g.D.Disk.left_with g.met.D.Disk.counts_now g.met.D.Disk.counts_with _ _ _
+    (reads_joined g.D.Disk.may_leave g.D.Disk.moment g.D.Disk.left_since g.D.Disk.past g.D.Disk.left_with g.met.D.Disk.counts_now g.met.D.Disk.counts_with _ _ _ c.read_front.ensures.still c.walk_file.ensures.still) c.check_end.ensures.still

@@ -6,8 +6,11 @@ use Rattle.tk_append.specs.Opening.{records_in}
 use Rattle.tk_append.specs.Walked.{least_behind}
 use Rattle.tk_append.specs.Checked.{Finds, HeadsStand, HeadFails}
 use Rattle.tk_append.proofs.DiskChecks.{has_heads, heads_fail, head_cause}
-use Rattle.tk_append.proofs.Checked.{none_open, end_told}
+use Rattle.tk_append.proofs.Checked.{none_open, end_told, always_ok}
 use Rattle.tk_append.proofs.check.check_end.Goals as goal
+
+pub returns-in-None-clause-heads : goal.returns-in-None-clause-heads
+returns-in-None-clause-heads g c p place w at = always_ok c.check_count.result (c.settle.ensures.heads p place w.blocks at.heads)
 
 pub returns-in-None-clause-ends : goal.returns-in-None-clause-ends
 returns-in-None-clause-ends g c h place w at =

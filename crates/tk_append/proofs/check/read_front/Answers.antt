@@ -1,5 +1,6 @@
 use Rattle.std.proofs.Common.{ℕ, List, ◌∙◌, subst, arith}
 use Rattle.std.specs.Prelude.{Option}
+use Rattle.tk_disk.proofs.Moments.{reads_joined}
 use Rattle.tk_append.specs.Walked.{Shows}
 use Rattle.tk_append.proofs.DiskChecks.{too_short, closing_cause, sizes}
 use Rattle.tk_append.proofs.check.read_front.Goals as goal
@@ -29,3 +30,11 @@ returns-clause-front g c =
       power = c.in_ok-head.ensures.p;
       base = c.in_ok-closing.ensures.base;
     }
+
+pub returns-in_err-closing-clause-still : goal.returns-in_err-closing-clause-still
+returns-in_err-closing-clause-still g c =
+    reads_joined g.D.Disk.may_leave g.D.Disk.moment g.D.Disk.left_since g.D.Disk.past g.D.Disk.left_with g.met.D.Disk.counts_now g.met.D.Disk.counts_with _ _ _ c.length_of.ensures.still c.read_piece.ensures.still
+
+pub returns-clause-still : goal.returns-clause-still
+returns-clause-still g c =
+    reads_joined g.D.Disk.may_leave g.D.Disk.moment g.D.Disk.left_since g.D.Disk.past g.D.Disk.left_with g.met.D.Disk.counts_now g.met.D.Disk.counts_with _ _ _ c.length_of.ensures.still c.read_piece.ensures.still

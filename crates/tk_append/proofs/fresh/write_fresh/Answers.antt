@@ -1,31 +1,93 @@
-use Rattle.std.proofs.Common.{◌≡◌, ℕ, ◌≤◌, ◌^◌, eqb, List, length, refl, sym, ◌∙◌, ap, subst}
-use Rattle.std.specs.Prelude.{Some, IfSome}
-use Rattle.tk_model.specs.declared.record.Pair.{Pair}
-use Rattle.tk_block.specs.declared.block.Body.{Body}
-use Rattle.tk_block.specs.Text.{base_of}
-use Rattle.tk_block.specs.Layout.{end_of}
-use Rattle.tk_block.specs.declared.closing.Closing.{Closing}
-use Rattle.tk_append.specs.Fresh.{fresh_bodies, fresh_text}
-use Rattle.tk_append.proofs.FreshSteps.{bodies-fresh, header_there, header_written, fresh_file}
+use Rattle.std.proofs.Common.{◌≡◌, refl, ◌∙◌, subst, List, ℕ, length}
+use Rattle.std.specs.Prelude.{Option, Some, IfSome, OnOk}
+use Rattle.std.proofs.lemmas.Option.{IfSome_then}
+use Rattle.std.proofs.lemmas.Result.{on_ok_weaker}
+use Rattle.tk_disk.specs.Crash.{Only, PastOnly}
+use Rattle.tk_disk.specs.Past.{with_write, settled_on}
+use Rattle.tk_disk.proofs.Moments.{leaves_joined}
+use Rattle.tk_append.specs.Untorn.{NoNewHeader}
+use Rattle.tk_append.specs.Fresh.{IsFreshMoment, fresh_groups, fresh_next, fresh_text}
+use Rattle.tk_append.proofs.FreshPasts.{rest_of, some_both, before_header, header_moments, synced_moments, header_written}
 use Rattle.tk_append.proofs.fresh.write_fresh.Goals as goal
 
-pub write_records-requires-clause-end : goal.write_records-requires-clause-end
-write_records-requires-clause-end g c =
-    subst (λ (l : List Body). end_of (base_of c.args.head.now.p) l ≤ 2 ^ 40)
-    (bodies-fresh c.args.head.now.kind c.args.pairs.now ∙ ap (λ (l : List Pair). fresh_bodies (eqb c.args.head.now.kind 2) l) (sym c.as_slice.ensures)) c.requires.end
+pub returns-in_err-write_rest-clause-pasts : goal.returns-in_err-write_rest-clause-pasts
+returns-in_err-write_rest-clause-pasts g c =
+    let image = g.D.Disk.image in
+    let past = g.D.Disk.past in
+    let leave = g.D.Disk.may_leave in
+    let moment = g.D.Disk.moment in
+    let left_with = g.D.Disk.left_with in
+    let h = c.args.head.now in
+    let groups = fresh_groups h.kind c.args.number c.args.pairs.now in
+    let count = length c.args.pairs.now in
+    let next = fresh_next c.args.number c.args.pairs.now in
+    let start = c.args.disk.now in
+    let disk = c.write_rest.new.disk in
+    IfSome_then (image start) c.write_rest.ensures.nameless
+    (λ f nameless. before_header h groups count next (past start) leave past moment left_with g.met.D.Disk.only_with start disk refl nameless)
 
-pub write_header-requires-clause-there : goal.write_header-requires-clause-there
-write_header-requires-clause-there g c =
-    header_there (g.D.Disk.image c.args.disk.now) (g.D.Disk.image c.write_records.new.disk) (g.D.Disk.image c.sync.new.self) _ c.in_ok-size.ensures.told c.in_ok-sync.ensures.image c.in_ok-size.ensures.written
+pub returns-in_err-write_at-clause-pasts : goal.returns-in_err-write_at-clause-pasts
+returns-in_err-write_at-clause-pasts g c =
+    let image = g.D.Disk.image in
+    let past = g.D.Disk.past in
+    let leave = g.D.Disk.may_leave in
+    let moment = g.D.Disk.moment in
+    let left_with = g.D.Disk.left_with in
+    let h = c.args.head.now in
+    let groups = fresh_groups h.kind c.args.number c.args.pairs.now in
+    let count = length c.args.pairs.now in
+    let next = fresh_next c.args.number c.args.pairs.now in
+    let start = c.args.disk.now in
+    let disk = c.write_rest.new.disk in
+    let named = c.write_at.new.self in
+    let moments = IsFreshMoment h groups (fresh_text h c.args.number c.args.pairs.now) (past start) in
+    let both : IfSome (image start) (λ _. (image disk ≡ Some (rest_of h groups count next)) × PastOnly moment left_with start disk (NoNewHeader (past start))) =
+    some_both (image start) _ _ c.in_ok-write_rest.ensures.written c.write_rest.ensures.nameless in
+    IfSome_then (image start) both (λ f there.
+    let settled = subst (λ (o : Option (List ℕ)). IfSome o (λ l. past disk ≡ settled_on l)) there.0 c.in_ok-write_rest.ensures.settled in
+    let only = subst (λ (o : Option (List ℕ)). IfSome o (λ l. Only l (leave disk))) there.0 c.in_ok-write_rest.ensures.durable in
+    leaves_joined moment left_with start disk named moments
+    (before_header h groups count next (past start) leave past moment left_with g.met.D.Disk.only_with start disk refl there.1)
+    (header_moments h groups count next (past start) leave past moment left_with g.met.D.Disk.only_with disk named c.write_static.result c.write_static.ensures settled only c.write_at.ensures.past c.write_at.ensures.crash c.write_at.ensures.pasts))
+
+pub returns-clause-pasts : goal.returns-clause-pasts
+returns-clause-pasts g c =
+    let image = g.D.Disk.image in
+    let past = g.D.Disk.past in
+    let leave = g.D.Disk.may_leave in
+    let moment = g.D.Disk.moment in
+    let left_with = g.D.Disk.left_with in
+    let h = c.args.head.now in
+    let groups = fresh_groups h.kind c.args.number c.args.pairs.now in
+    let count = length c.args.pairs.now in
+    let next = fresh_next c.args.number c.args.pairs.now in
+    let start = c.args.disk.now in
+    let disk = c.write_rest.new.disk in
+    let named = c.write_at.new.self in
+    let moments = IsFreshMoment h groups (fresh_text h c.args.number c.args.pairs.now) (past start) in
+    let both : IfSome (image start) (λ _. (image disk ≡ Some (rest_of h groups count next)) × PastOnly moment left_with start disk (NoNewHeader (past start))) =
+    some_both (image start) _ _ c.in_ok-write_rest.ensures.written c.write_rest.ensures.nameless in
+    let end = c.sync.new.self in
+    IfSome_then (image start) both (λ f there.
+    let settled = subst (λ (o : Option (List ℕ)). IfSome o (λ l. past disk ≡ settled_on l)) there.0 c.in_ok-write_rest.ensures.settled in
+    let only = subst (λ (o : Option (List ℕ)). IfSome o (λ l. Only l (leave disk))) there.0 c.in_ok-write_rest.ensures.durable in
+    let written = subst (λ (o : Option (List ℕ)). IfSome o (λ _. past named ≡ with_write 0 c.write_static.result (past disk))) there.0 c.in_ok-write_at.ensures.told_past in
+    let whole : image named ≡ Some (fresh_text h c.args.number c.args.pairs.now) = header_written h groups count next (image disk) (image named) c.write_static.result c.write_static.ensures there.0 c.in_ok-write_at.ensures.written in
+    leaves_joined moment left_with start named end moments
+    (leaves_joined moment left_with start disk named moments
+    (before_header h groups count next (past start) leave past moment left_with g.met.D.Disk.only_with start disk refl there.1)
+    (header_moments h groups count next (past start) leave past moment left_with g.met.D.Disk.only_with disk named c.write_static.result c.write_static.ensures settled only c.write_at.ensures.past c.write_at.ensures.crash c.write_at.ensures.pasts))
+    (synced_moments h groups count next (past start) leave past moment left_with g.met.D.Disk.only_with c.sync.result disk named end c.write_static.result c.write_static.ensures settled only written c.write_at.ensures.crash c.sync.ensures.crash
+    (subst (λ (o : Option (List ℕ)). OnOk c.sync.result (IfSome o (λ l. Only l (leave end)))) whole (c.sync.ensures.durable refl))
+    (subst (λ (o : Option (List ℕ)). IfSome o (λ l. OnOk c.sync.result (past end ≡ settled_on l))) whole (c.sync.ensures.settled refl))
+    c.sync.ensures.unsettled c.sync.ensures.pasts))
 
 pub returns-clause-written : goal.returns-clause-written
 returns-clause-written g c =
-    let pairs : c.as_slice.result.now ≡ c.args.pairs.now = c.as_slice.ensures in
-    let whole = header_written (g.D.Disk.image c.args.disk.now) (g.D.Disk.image c.write_records.new.disk) (g.D.Disk.image c.sync.new.self) (g.D.Disk.image c.write_header.new.disk) (g.D.Disk.image c.sync-2.new.self) _ _
-    c.in_ok-size.ensures.written c.in_ok-sync.ensures.image c.in_ok-write_header.ensures.written c.in_ok-sync-2.ensures.image in
-    let counted : c.len-count.result ≡ length c.as_slice.result.now = c.len-count.ensures ∙ ap length (sym pairs) in
-    let closing : Closing = record { size = c.in_ok-size.size; count = c.len-count.result; next = c.next_of-next.result } in
-    subst (λ (l : List ℕ). IfSome (g.D.Disk.image c.args.disk.now) (λ _. g.D.Disk.image c.sync-2.new.self ≡ Some l))
-    (fresh_file c.args.head.now c.as_slice.result.now c.in_ok-size.size c.len-count.result c.next_of-next.result closing refl c.in_ok-size.ensures.end counted (c.next_of-next.ensures c.as_slice.result.now counted)
-    ∙ ap (λ (l : List Pair). fresh_text c.args.head.now l) pairs)
-    whole
+    let image = g.D.Disk.image in
+    let h = c.args.head.now in
+    on_ok_weaker c.sync.result (λ same.
+    IfSome_then (image c.args.disk.now) c.in_ok-write_rest.ensures.written (λ f there.
+    same
+    ∙ header_written h (fresh_groups h.kind c.args.number c.args.pairs.now) (length c.args.pairs.now) (fresh_next c.args.number c.args.pairs.now) (image c.write_rest.new.disk) (image c.write_at.new.self) c.write_static.result c.write_static.ensures there
+    c.in_ok-write_at.ensures.written)) c.sync.ensures.image

@@ -17,5 +17,5 @@ loop-first-preserved g c =
       room = sym (length_refill c.loop-first.buffer.len c.loop-first.buffer.items _ c.loop-first.buffer.ok.0) ∙ c.loop-first.buffer.ok.0 ∙ i.room;
       image = c.read_piece.ensures.image ∙ i.image;
       count = c.in_ok-read_piece.ensures.cause.kept ∙ i.count;
-      still = reads_joined g.D.Disk.may_leave g.D.Disk.moment g.D.Disk.left_since g.met.D.Disk.counts_now c.args.disk.now c.loop-first.disk c.read_piece.new.disk i.still c.read_piece.ensures.still;
+      still = reads_joined g.D.Disk.may_leave g.D.Disk.moment g.D.Disk.left_since g.D.Disk.past g.D.Disk.left_with g.met.D.Disk.counts_now g.met.D.Disk.counts_with c.args.disk.now c.loop-first.disk c.read_piece.new.disk i.still c.read_piece.ensures.still;
     }

@@ -10,7 +10,7 @@ invariant-loop-first g l = record {
   room : length l.buffer.items ≡ 8 * min 131072 (length l.heads);
   image : g.D.Disk.image l.disk ≡ g.D.Disk.image l.fn.disk;
   count : g.D.Disk.fault_count l.disk ≡ g.D.Disk.fault_count l.fn.disk;
-  still : OnlyReads g.D.Disk.may_leave g.D.Disk.moment g.D.Disk.left_since l.fn.disk l.disk;
+  still : OnlyReads g.D.Disk.may_leave g.D.Disk.moment g.D.Disk.left_since g.D.Disk.past g.D.Disk.left_with l.fn.disk l.disk;
 }
 
 abbrev pub decreases-loop-first : goal.decreases-loop-first

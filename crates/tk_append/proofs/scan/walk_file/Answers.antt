@@ -12,14 +12,14 @@ loop-place-init g c = record {
   scanned = scan_first (g.D.Disk.image c.args.disk.now) c.args.head.now c.args.shard c.args.size c.base_of-place.result (items c.new-window.result) c.in_ok-walker.walker c.in_ok-walker.ensures c.requires.long c.base_of-place.ensures c.new-window.ensures;
   image = refl;
   count = refl;
-  still = nothing_read g.D.Disk.may_leave g.D.Disk.moment g.D.Disk.left_since c.args.disk.now;
+  still = nothing_read g.D.Disk.may_leave g.D.Disk.moment g.D.Disk.left_since g.D.Disk.past g.D.Disk.left_with c.args.disk.now;
 }
 
 pub returns-in_err-hold_block-clause-still : goal.returns-in_err-hold_block-clause-still
-returns-in_err-hold_block-clause-still g c = reads_joined g.D.Disk.may_leave g.D.Disk.moment g.D.Disk.left_since g.met.D.Disk.counts_now c.args.disk.now c.loop-place.disk c.hold_block.new.disk c.loop-place.invariant.still c.hold_block.ensures.still
+returns-in_err-hold_block-clause-still g c = reads_joined g.D.Disk.may_leave g.D.Disk.moment g.D.Disk.left_since g.D.Disk.past g.D.Disk.left_with g.met.D.Disk.counts_now g.met.D.Disk.counts_with c.args.disk.now c.loop-place.disk c.hold_block.new.disk c.loop-place.invariant.still c.hold_block.ensures.still
 
 pub returns-in_err-extent-clause-still : goal.returns-in_err-extent-clause-still
-returns-in_err-extent-clause-still g c = reads_joined g.D.Disk.may_leave g.D.Disk.moment g.D.Disk.left_since g.met.D.Disk.counts_now c.args.disk.now c.loop-place.disk c.hold_block.new.disk c.loop-place.invariant.still c.hold_block.ensures.still
+returns-in_err-extent-clause-still g c = reads_joined g.D.Disk.may_leave g.D.Disk.moment g.D.Disk.left_since g.D.Disk.past g.D.Disk.left_with g.met.D.Disk.counts_now g.met.D.Disk.counts_with c.args.disk.now c.loop-place.disk c.hold_block.new.disk c.loop-place.invariant.still c.hold_block.ensures.still
 
 pub returns-in_err-extent-clause-fails : goal.returns-in_err-extent-clause-fails
 returns-in_err-extent-clause-fails g c =
@@ -46,7 +46,7 @@ loop-place-preserved g c =
           (subst (λ (l : List ℕ). (w : Walk) → IsAt c.args.head.now.p place c.loop-place.walker w → Passed c.args.head.now c.args.shard w place l c.in_ok-extent.extent c.step.new.self) c.as_slice.ensures c.in_ok-extent.ensures.passed);
       image = c.hold_block.ensures.image ∙ i.image;
       count = c.in_ok-hold_block.ensures.cause.kept ∙ i.count;
-      still = reads_joined g.D.Disk.may_leave g.D.Disk.moment g.D.Disk.left_since g.met.D.Disk.counts_now c.args.disk.now c.loop-place.disk c.hold_block.new.disk i.still c.hold_block.ensures.still;
+      still = reads_joined g.D.Disk.may_leave g.D.Disk.moment g.D.Disk.left_since g.D.Disk.past g.D.Disk.left_with g.met.D.Disk.counts_now g.met.D.Disk.counts_with c.args.disk.now c.loop-place.disk c.hold_block.new.disk i.still c.hold_block.ensures.still;
     }
 
 pub returns-clause-walked : goal.returns-clause-walked

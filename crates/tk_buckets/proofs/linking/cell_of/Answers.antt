@@ -18,7 +18,7 @@ loop-next-preserved g c =
       image = c.number_at-in-loop-next.ensures.image ∙ c.loop-next.invariant.image;
       more = omega (arith, c.loop-next.invariant.more, c.number_at-in-loop-next.ensures.more);
       count = c.in_ok-next-2.ensures.cause.kept ∙ c.loop-next.invariant.count;
-      still = reads_joined g.D.Disk.may_leave g.D.Disk.moment g.D.Disk.left_since g.met.D.Disk.counts_now c.number_at.new.disk c.loop-next.disk c.number_at-in-loop-next.new.disk c.loop-next.invariant.still c.number_at-in-loop-next.ensures.still;
+      still = reads_joined g.D.Disk.may_leave g.D.Disk.moment g.D.Disk.left_since g.D.Disk.past g.D.Disk.left_with g.met.D.Disk.counts_now g.met.D.Disk.counts_with c.number_at.new.disk c.loop-next.disk c.number_at-in-loop-next.new.disk c.loop-next.invariant.still c.number_at-in-loop-next.ensures.still;
     }
 
 pub returns-clause-found : goal.returns-clause-found

@@ -5,9 +5,10 @@ use Rattle.std.proofs.lemmas.Option.{IfSome_then}
 use Rattle.tk_disk.specs.Crash.{Torn, Follows}
 use Rattle.tk_disk.specs.Disk.{put_at}
 use Rattle.tk_block.specs.Number.{u64_in}
-use Rattle.tk_buckets.proofs.Cuts.{found_in, cell_in, cut_in, cut_written, cut_leaves, nothing_torn, cell_torn}
-use Rattle.tk_disk.proofs.Moments.{time_joined, reads_joined}
-use Rattle.tk_buckets.proofs.Moments.{cell_only}
+use Rattle.tk_buckets.proofs.Cuts.{found_in, cell_in, cut_in, cut_written, cut_leaves, cut_spares, nothing_torn, cell_torn}
+use Rattle.tk_disk.specs.Past.{Past, Writes}
+use Rattle.tk_disk.proofs.Moments.{time_joined, reads_joined, pasts_joined}
+use Rattle.tk_buckets.proofs.Moments.{cell_only, of_cut, told_cell, writes_only}
 use Rattle.tk_buckets.proofs.linking.unlink.Goals as goal
 
 pub returns-in_default-clause-written : goal.returns-in_default-clause-written
@@ -21,6 +22,12 @@ returns-in_default-clause-chain g c = λ places.
     IfSome_then (g.D.Disk.image c.args.disk.now)
     (found_in c.args.head.now (g.D.Disk.image c.args.disk.now) (g.D.Disk.image c.len.new.self) c.args.bucket c.args.place places c.in_ok-cell.field-0 c.requires.bucket c.len.ensures.image (c.in_ok-cell.ensures.found c.args.head.now places))
     (λ f known chain has. absurd (c.in_default.not-Some _ (known chain has)))
+
+pub returns-in_default-clause-others : goal.returns-in_default-clause-others
+returns-in_default-clause-others g c = λ other rest within ne places.
+    IfSome_then (g.D.Disk.image c.args.disk.now)
+    (found_in c.args.head.now (g.D.Disk.image c.args.disk.now) (g.D.Disk.image c.len.new.self) c.args.bucket c.args.place places c.in_ok-cell.field-0 c.requires.bucket c.len.ensures.image (c.in_ok-cell.ensures.found c.args.head.now places))
+    (λ f known chain has kept apart. absurd (c.in_default.not-Some _ (known chain has)))
 
 pub write_at-requires-clause-within : goal.write_at-requires-clause-within
 write_at-requires-clause-within g c =
@@ -42,6 +49,16 @@ pub returns-clause-chain : goal.returns-clause-chain
 returns-clause-chain g c = λ places.
     let image = g.D.Disk.image c.args.disk.now in
     cut_leaves c.write_at.result c.args.head.now image (g.D.Disk.image c.write_at.new.self) c.args.bucket c.args.place c.in-Some.cell c.in_ok-link.link places c.requires.bucket c.in_ok-link.ensures.fits
+    (cut_in c.args.head.now image c.args.bucket c.args.place c.in-Some.cell c.saturating_add.result c.in_ok-link.link places c.in_ok-cell.field-0 c.requires.bucket c.in-Some.is c.requires.size c.saturating_add.ensures
+    (found_in c.args.head.now image (g.D.Disk.image c.len.new.self) c.args.bucket c.args.place places c.in_ok-cell.field-0 c.requires.bucket c.len.ensures.image (c.in_ok-cell.ensures.found c.args.head.now places))
+    (subst (λ (o : Option (List ℕ)). IfSome o (λ f. c.saturating_add.result + 8 ≤ length f → c.in_ok-link.link ≡ u64_in f c.saturating_add.result)) (c.cell_of.ensures.image ∙ c.len.ensures.image) c.in_ok-link.ensures.value))
+    (subst (λ (l : List ℕ). OnOk c.write_at.result (g.D.Disk.image c.write_at.new.self ≡ option_map (put_at c.in-Some.cell l) image)) c.to_be_bytes.ensures
+    (subst (λ (o : Option (List ℕ)). OnOk c.write_at.result (g.D.Disk.image c.write_at.new.self ≡ option_map (put_at c.in-Some.cell c.to_be_bytes.result) o)) (c.number_at.ensures.image ∙ c.cell_of.ensures.image ∙ c.len.ensures.image) c.write_at.ensures.written))
+
+pub returns-clause-others : goal.returns-clause-others
+returns-clause-others g c = λ other rest within ne places.
+    let image = g.D.Disk.image c.args.disk.now in
+    cut_spares c.write_at.result c.args.head.now image (g.D.Disk.image c.write_at.new.self) c.args.bucket other c.args.place c.in-Some.cell c.in_ok-link.link places rest c.requires.bucket within ne
     (cut_in c.args.head.now image c.args.bucket c.args.place c.in-Some.cell c.saturating_add.result c.in_ok-link.link places c.in_ok-cell.field-0 c.requires.bucket c.in-Some.is c.requires.size c.saturating_add.ensures
     (found_in c.args.head.now image (g.D.Disk.image c.len.new.self) c.args.bucket c.args.place places c.in_ok-cell.field-0 c.requires.bucket c.len.ensures.image (c.in_ok-cell.ensures.found c.args.head.now places))
     (subst (λ (o : Option (List ℕ)). IfSome o (λ f. c.saturating_add.result + 8 ≤ length f → c.in_ok-link.link ≡ u64_in f c.saturating_add.result)) (c.cell_of.ensures.image ∙ c.len.ensures.image) c.in_ok-link.ensures.value))
@@ -83,24 +100,59 @@ returns-in_err-len-clause-time g c = λ places.
 pub returns-in_err-cell-clause-time : goal.returns-in_err-cell-clause-time
 returns-in_err-cell-clause-time g c = λ places.
     cell_only g.D.Disk.may_leave g.D.Disk.moment g.D.Disk.left_since g.met.D.Disk.only_now (g.D.Disk.image c.args.disk.now) c.args.head.now c.args.bucket c.args.place places c.args.disk.now c.cell_of.new.disk
-    (reads_joined g.D.Disk.may_leave g.D.Disk.moment g.D.Disk.left_since g.met.D.Disk.counts_now c.args.disk.now c.len.new.self c.cell_of.new.disk (record { crash = c.len.ensures.crash; time = c.len.ensures.time }) c.cell_of.ensures.still).time
+    (reads_joined g.D.Disk.may_leave g.D.Disk.moment g.D.Disk.left_since g.D.Disk.past g.D.Disk.left_with g.met.D.Disk.counts_now g.met.D.Disk.counts_with c.args.disk.now c.len.new.self c.cell_of.new.disk (record { crash = c.len.ensures.crash; time = c.len.ensures.time; past = c.len.ensures.past; pasts = c.len.ensures.pasts }) c.cell_of.ensures.still).time
     (returns-in_err-cell-clause-crash g c places)
 
 pub returns-in_default-clause-time : goal.returns-in_default-clause-time
 returns-in_default-clause-time g c = λ places.
     cell_only g.D.Disk.may_leave g.D.Disk.moment g.D.Disk.left_since g.met.D.Disk.only_now (g.D.Disk.image c.args.disk.now) c.args.head.now c.args.bucket c.args.place places c.args.disk.now c.cell_of.new.disk
-    (reads_joined g.D.Disk.may_leave g.D.Disk.moment g.D.Disk.left_since g.met.D.Disk.counts_now c.args.disk.now c.len.new.self c.cell_of.new.disk (record { crash = c.len.ensures.crash; time = c.len.ensures.time }) c.cell_of.ensures.still).time
+    (reads_joined g.D.Disk.may_leave g.D.Disk.moment g.D.Disk.left_since g.D.Disk.past g.D.Disk.left_with g.met.D.Disk.counts_now g.met.D.Disk.counts_with c.args.disk.now c.len.new.self c.cell_of.new.disk (record { crash = c.len.ensures.crash; time = c.len.ensures.time; past = c.len.ensures.past; pasts = c.len.ensures.pasts }) c.cell_of.ensures.still).time
     (returns-in_default-clause-crash g c places)
 
 pub returns-in_err-link-clause-time : goal.returns-in_err-link-clause-time
 returns-in_err-link-clause-time g c = λ places.
     cell_only g.D.Disk.may_leave g.D.Disk.moment g.D.Disk.left_since g.met.D.Disk.only_now (g.D.Disk.image c.args.disk.now) c.args.head.now c.args.bucket c.args.place places c.args.disk.now c.number_at.new.disk
-    (reads_joined g.D.Disk.may_leave g.D.Disk.moment g.D.Disk.left_since g.met.D.Disk.counts_now c.args.disk.now c.cell_of.new.disk c.number_at.new.disk (reads_joined g.D.Disk.may_leave g.D.Disk.moment g.D.Disk.left_since g.met.D.Disk.counts_now c.args.disk.now c.len.new.self c.cell_of.new.disk (record { crash = c.len.ensures.crash; time = c.len.ensures.time }) c.cell_of.ensures.still) c.number_at.ensures.still).time
+    (reads_joined g.D.Disk.may_leave g.D.Disk.moment g.D.Disk.left_since g.D.Disk.past g.D.Disk.left_with g.met.D.Disk.counts_now g.met.D.Disk.counts_with c.args.disk.now c.cell_of.new.disk c.number_at.new.disk (reads_joined g.D.Disk.may_leave g.D.Disk.moment g.D.Disk.left_since g.D.Disk.past g.D.Disk.left_with g.met.D.Disk.counts_now g.met.D.Disk.counts_with c.args.disk.now c.len.new.self c.cell_of.new.disk (record { crash = c.len.ensures.crash; time = c.len.ensures.time; past = c.len.ensures.past; pasts = c.len.ensures.pasts }) c.cell_of.ensures.still) c.number_at.ensures.still).time
     (returns-in_err-link-clause-crash g c places)
 
 pub returns-clause-time : goal.returns-clause-time
 returns-clause-time g c = λ places.
     cell_only g.D.Disk.may_leave g.D.Disk.moment g.D.Disk.left_since g.met.D.Disk.only_now (g.D.Disk.image c.args.disk.now) c.args.head.now c.args.bucket c.args.place places c.args.disk.now c.write_at.new.self
-    (time_joined g.D.Disk.may_leave g.D.Disk.moment g.D.Disk.left_since g.met.D.Disk.counts_now c.args.disk.now c.number_at.new.disk c.write_at.new.self
-    (reads_joined g.D.Disk.may_leave g.D.Disk.moment g.D.Disk.left_since g.met.D.Disk.counts_now c.args.disk.now c.cell_of.new.disk c.number_at.new.disk (reads_joined g.D.Disk.may_leave g.D.Disk.moment g.D.Disk.left_since g.met.D.Disk.counts_now c.args.disk.now c.len.new.self c.cell_of.new.disk (record { crash = c.len.ensures.crash; time = c.len.ensures.time }) c.cell_of.ensures.still) c.number_at.ensures.still) c.write_at.ensures.time)
+    (time_joined g.D.Disk.may_leave g.D.Disk.moment g.D.Disk.left_since g.D.Disk.past g.D.Disk.left_with g.met.D.Disk.counts_now c.args.disk.now c.number_at.new.disk c.write_at.new.self
+    (reads_joined g.D.Disk.may_leave g.D.Disk.moment g.D.Disk.left_since g.D.Disk.past g.D.Disk.left_with g.met.D.Disk.counts_now g.met.D.Disk.counts_with c.args.disk.now c.cell_of.new.disk c.number_at.new.disk (reads_joined g.D.Disk.may_leave g.D.Disk.moment g.D.Disk.left_since g.D.Disk.past g.D.Disk.left_with g.met.D.Disk.counts_now g.met.D.Disk.counts_with c.args.disk.now c.len.new.self c.cell_of.new.disk (record { crash = c.len.ensures.crash; time = c.len.ensures.time; past = c.len.ensures.past; pasts = c.len.ensures.pasts }) c.cell_of.ensures.still) c.number_at.ensures.still) c.write_at.ensures.time)
     (returns-clause-crash g c places)
+
+pub returns-in_default-clause-told_past : goal.returns-in_default-clause-told_past
+returns-in_default-clause-told_past g c = λ places.
+    IfSome_then (g.D.Disk.image c.args.disk.now)
+    (found_in c.args.head.now (g.D.Disk.image c.args.disk.now) (g.D.Disk.image c.len.new.self) c.args.bucket c.args.place places c.in_ok-cell.field-0 c.requires.bucket c.len.ensures.image (c.in_ok-cell.ensures.found c.args.head.now places))
+    (λ f known chain has. absurd (c.in_default.not-Some _ (known chain has)))
+
+pub returns-clause-past : goal.returns-clause-past
+returns-clause-past g c = λ places.
+    let image = g.D.Disk.image c.args.disk.now in
+    of_cut image c.args.head.now c.args.bucket c.args.place c.in-Some.cell c.in_ok-link.link places (λ at bytes. Writes at bytes (g.D.Disk.past c.args.disk.now) (g.D.Disk.past c.write_at.new.self))
+    (cut_in c.args.head.now image c.args.bucket c.args.place c.in-Some.cell c.saturating_add.result c.in_ok-link.link places c.in_ok-cell.field-0 c.requires.bucket c.in-Some.is c.requires.size c.saturating_add.ensures
+    (found_in c.args.head.now image (g.D.Disk.image c.len.new.self) c.args.bucket c.args.place places c.in_ok-cell.field-0 c.requires.bucket c.len.ensures.image (c.in_ok-cell.ensures.found c.args.head.now places))
+    (subst (λ (o : Option (List ℕ)). IfSome o (λ f. c.saturating_add.result + 8 ≤ length f → c.in_ok-link.link ≡ u64_in f c.saturating_add.result)) (c.cell_of.ensures.image ∙ c.len.ensures.image) c.in_ok-link.ensures.value))
+    (subst (λ (l : List ℕ). Writes c.in-Some.cell l (g.D.Disk.past c.args.disk.now) (g.D.Disk.past c.write_at.new.self)) c.to_be_bytes.ensures
+    (subst (λ (p : Past). Writes c.in-Some.cell c.to_be_bytes.result p (g.D.Disk.past c.write_at.new.self)) (c.number_at.ensures.still.past ∙ c.cell_of.ensures.still.past ∙ c.len.ensures.past) c.write_at.ensures.past))
+
+pub returns-clause-told_past : goal.returns-clause-told_past
+returns-clause-told_past g c = λ places.
+    let image = g.D.Disk.image c.args.disk.now in
+    told_cell image (g.D.Disk.image c.number_at.new.disk) c.write_at.result c.args.head.now c.args.bucket c.args.place c.in-Some.cell c.in_ok-link.link places (g.D.Disk.past c.args.disk.now) (g.D.Disk.past c.number_at.new.disk) (g.D.Disk.past c.write_at.new.self) c.to_be_bytes.result
+    (c.number_at.ensures.image ∙ c.cell_of.ensures.image ∙ c.len.ensures.image) c.to_be_bytes.ensures (c.number_at.ensures.still.past ∙ c.cell_of.ensures.still.past ∙ c.len.ensures.past) c.write_at.ensures.told_past
+    (cut_in c.args.head.now image c.args.bucket c.args.place c.in-Some.cell c.saturating_add.result c.in_ok-link.link places c.in_ok-cell.field-0 c.requires.bucket c.in-Some.is c.requires.size c.saturating_add.ensures
+    (found_in c.args.head.now image (g.D.Disk.image c.len.new.self) c.args.bucket c.args.place places c.in_ok-cell.field-0 c.requires.bucket c.len.ensures.image (c.in_ok-cell.ensures.found c.args.head.now places))
+    (subst (λ (o : Option (List ℕ)). IfSome o (λ f. c.saturating_add.result + 8 ≤ length f → c.in_ok-link.link ≡ u64_in f c.saturating_add.result)) (c.cell_of.ensures.image ∙ c.len.ensures.image) c.in_ok-link.ensures.value))
+
+pub returns-clause-time_with : goal.returns-clause-time_with
+returns-clause-time_with g c =
+    pasts_joined g.D.Disk.may_leave g.D.Disk.moment g.D.Disk.left_since g.D.Disk.past g.D.Disk.left_with g.met.D.Disk.counts_with c.args.disk.now c.number_at.new.disk c.write_at.new.self
+    (reads_joined g.D.Disk.may_leave g.D.Disk.moment g.D.Disk.left_since g.D.Disk.past g.D.Disk.left_with g.met.D.Disk.counts_now g.met.D.Disk.counts_with c.args.disk.now c.cell_of.new.disk c.number_at.new.disk (reads_joined g.D.Disk.may_leave g.D.Disk.moment g.D.Disk.left_since g.D.Disk.past g.D.Disk.left_with g.met.D.Disk.counts_now g.met.D.Disk.counts_with c.args.disk.now c.len.new.self c.cell_of.new.disk (record { crash = c.len.ensures.crash; time = c.len.ensures.time; past = c.len.ensures.past; pasts = c.len.ensures.pasts }) c.cell_of.ensures.still) c.number_at.ensures.still) c.write_at.ensures.pasts
+
+pub returns-clause-pasts : goal.returns-clause-pasts
+returns-clause-pasts g c = λ places.
+    IfSome_then (g.D.Disk.image c.args.disk.now) (returns-clause-past g c places)
+    (λ f known chain has. writes_only g.D.Disk.may_leave g.D.Disk.moment g.D.Disk.past g.D.Disk.left_with g.met.D.Disk.only_with c.args.disk.now c.write_at.new.self (returns-clause-time_with g c) _ _ (known chain has))

@@ -28,7 +28,7 @@ loop-next-preserved g c =
       taken = omega (arith, c.number_at.ensures.taken, c.loop-next.invariant.taken, grown);
       count = c.in_ok-next.ensures.cause.kept ∙ c.loop-next.invariant.count;
       more = omega arith;
-      still = reads_joined g.D.Disk.may_leave g.D.Disk.moment g.D.Disk.left_since g.met.D.Disk.counts_now c.args.disk.now c.loop-next.disk c.number_at.new.disk c.loop-next.invariant.still c.number_at.ensures.still;
+      still = reads_joined g.D.Disk.may_leave g.D.Disk.moment g.D.Disk.left_since g.D.Disk.past g.D.Disk.left_with g.met.D.Disk.counts_now g.met.D.Disk.counts_with c.args.disk.now c.loop-next.disk c.number_at.new.disk c.loop-next.invariant.still c.number_at.ensures.still;
     }
 
 pub returns-clause-all : goal.returns-clause-all

@@ -11,7 +11,7 @@ invariant-loop-next g l = record {
   taken : g.D.Disk.taken_count l.disk ≤ g.D.Disk.taken_count l.initial.disk + 8 * length l.places;
   count : g.D.Disk.fault_count l.disk ≡ g.D.Disk.fault_count l.initial.disk;
   more : g.D.Disk.taken_count l.initial.disk ≤ g.D.Disk.taken_count l.disk;
-  still : OnlyReads g.D.Disk.may_leave g.D.Disk.moment g.D.Disk.left_since l.initial.disk l.disk;
+  still : OnlyReads g.D.Disk.may_leave g.D.Disk.moment g.D.Disk.left_since g.D.Disk.past g.D.Disk.left_with l.initial.disk l.disk;
 }
 
 abbrev pub decreases-loop-next : goal.decreases-loop-next

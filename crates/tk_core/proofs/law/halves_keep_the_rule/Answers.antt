@@ -3,7 +3,7 @@ use Rattle.tk_core.proofs.law.halves_keep_the_rule.Goals as goal
 
 pub returns-clause-halves : goal.returns-clause-halves
 returns-clause-halves c = record {
-  split = λ s id v sound at may. splits _ _ _ _ _ _ _ _ _ sound id v at may;
+  split = λ s id v sound at may. splits _ _ _ _ _ _ _ _ _ sound id v at (may.live, may.held);
   join = λ s id other v u sound at there may. joins _ _ _ _ _ _ _ _ _ sound id v at other u there may;
 }
 

@@ -1,9 +1,9 @@
-use Rattle.std.proofs.Common.{length, ◌-◌}
+use Rattle.std.proofs.Common.{length}
 use Rattle.tk_flat.proofs.Records.{ReadSoFar}
 use Rattle.tk_flat.proofs.flat.read_records.Given as goal
 
-abbrev pub invariant-loop-place : goal.invariant-loop-place
-invariant-loop-place l = ReadSoFar l.bytes l.place l.pairs
+abbrev pub invariant-loop-rest : goal.invariant-loop-rest
+invariant-loop-rest l = ReadSoFar l.bytes l.rest l.pairs
 
-abbrev pub decreases-loop-place : goal.decreases-loop-place
-decreases-loop-place l = length l.bytes - l.place
+abbrev pub decreases-loop-rest : goal.decreases-loop-rest
+decreases-loop-rest l = length l.rest

@@ -1,4 +1,4 @@
-use Rattle.tk_flat.specs.Flat.{pair_with}
+use Rattle.tk_model.specs.RecordText.{pair_with}
 use Rattle.tk_flat.proofs.LinesBack.{line-back}
 use Rattle.tk_flat.proofs.tsv.write_line.Goals as goal
 

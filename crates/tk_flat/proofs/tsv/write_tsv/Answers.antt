@@ -21,8 +21,8 @@ loop-pair-preserved c =
     )
 
 pub returns-clause-back : goal.returns-clause-back
-returns-clause-back c small =
+returns-clause-back c =
     let items = c.as_slice-pair-items.result.now in
     let Back : List Pair → Type 0 = λ ps. (k : ℕ) (d : Pair) → k < length ps → IsReadBack (slice_index_or ps k d) in
     let all : Back items = subst Back (take_all c.loop-pair.pair-index items c.loop-pair-test.false) c.loop-pair.invariant.1 in
-    tsv_back c.args.pairs.now (subst Back c.as_slice-pair-items.ensures all) small
+    tsv_back c.args.pairs.now (subst Back c.as_slice-pair-items.ensures all)

@@ -42,7 +42,7 @@ loop-i-preserved g c =
       marks = c.in_ok-mark_before.ensures ∙ ap (λ (k : ℕ). marked (take k cs) []) next;
       buffer = e.buffer ∙ so_far.buffer;
       image = e.image ∙ so_far.image;
-      still = reads_joined disk.may_leave disk.moment disk.left_since g.met.D.Disk.counts_now c.args.disk.now c.loop-i.disk c.was_there.new.disk so_far.still e.still;
+      still = reads_joined disk.may_leave disk.moment disk.left_since disk.past disk.left_with g.met.D.Disk.counts_now g.met.D.Disk.counts_with c.args.disk.now c.loop-i.disk c.was_there.new.disk so_far.still e.still;
       taken = omega (arith, so_far.taken, e.taken);
       count = e.cause.kept ∙ so_far.count;
     }

@@ -16,7 +16,7 @@ invariant-loop-i g l =
       marks : l.marks ≡ marked (take (l.i - 1) l.changes) [];
       buffer : length l.buffer ≡ length l.fn.buffer;
       image : disk.image l.disk ≡ disk.image l.fn.disk;
-      still : OnlyReads disk.may_leave disk.moment disk.left_since l.fn.disk l.disk;
+      still : OnlyReads disk.may_leave disk.moment disk.left_since disk.past disk.left_with l.fn.disk l.disk;
       taken : disk.taken_count l.fn.disk ≤ disk.taken_count l.disk;
       count : disk.fault_count l.disk ≡ disk.fault_count l.fn.disk;
     }

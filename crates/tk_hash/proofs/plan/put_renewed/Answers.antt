@@ -15,8 +15,8 @@ returns-in_err-set_cells-clause-puts g c =
     let e = c.set_cells.ensures in
     let none : NewHead = record { bucket = 0; place = 0 } in
     let fit = below_more (2 ^ c.args.log.now.head.p) c.args.heads.now c.loop-head.head-index none c.loop-head-test.true c.loop-head.invariant.below in
-    puts_more disk.image disk.may_leave disk.moment disk.left_since disk.taken_count c.args.log.now c.loop-head.log c.set_cells.new.self _ _
-    (omega (arith, ap length c.to_be_bytes.ensures, fit.0)) c.loop-head.invariant.puts e.head e.end e.told e.taken e.crash e.time
+    puts_more disk.image disk.may_leave disk.past disk.moment disk.left_since disk.left_with disk.taken_count c.args.log.now c.loop-head.log c.set_cells.new.self _ _
+    (omega (arith, ap length c.to_be_bytes.ensures, fit.0)) c.loop-head.invariant.puts e.head e.end e.told e.taken e.crash e.time e.past e.pasts
 
 pub loop-head-preserved : goal.loop-head-preserved
 loop-head-preserved g c =
@@ -37,8 +37,8 @@ loop-head-preserved g c =
           (c.to_be_bytes.ensures ∙ sym (append-nil (to_be_bytes w64 n.place))) (omega (arith, fit.0)) w.written
           (λ now all more. new_more ns i none now (with_new ns old) c.loop-head-test.true (omega (arith, all, fit.0)) more)
           (known is long));
-      puts = puts_more disk.image disk.may_leave disk.moment disk.left_since disk.taken_count c.args.log.now c.loop-head.log c.set_cells.new.self n.bucket (length c.to_be_bytes.result)
-          within c.loop-head.invariant.puts e.head e.end e.told e.taken e.crash e.time;
+      puts = puts_more disk.image disk.may_leave disk.past disk.moment disk.left_since disk.left_with disk.taken_count c.args.log.now c.loop-head.log c.set_cells.new.self n.bucket c.to_be_bytes.result
+          within c.loop-head.invariant.puts e.head e.end e.told e.taken e.crash e.time e.past e.pasts;
       there = long_put (disk.image (log_disk c.loop-head.log)) _ (base_of c.args.log.now.head.p) (64 + 8 * n.bucket) c.to_be_bytes.result within c.loop-head.invariant.there w.written;
       below = fit.1;
       count = w.cause.kept ∙ c.loop-head.invariant.count;

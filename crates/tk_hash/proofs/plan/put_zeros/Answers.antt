@@ -17,8 +17,8 @@ returns-in_err-set_cells-clause-puts g c =
     let n = c.min-cells.result in
     let cells : c.loop-bucket.bucket + n ≤ 2 ^ p = omega (arith, number, c.min-cells.ensures, c.loop-bucket-test.true) in
     let long : length (take (8 * n) c.args.zeros.now) ≡ 8 * n = length-take-le (8 * n) c.args.zeros.now (omega (arith, c.min-cells.ensures)) in
-    puts_more disk.image disk.may_leave disk.moment disk.left_since disk.taken_count c.args.log.now c.loop-bucket.log c.set_cells.new.self c.loop-bucket.bucket (length (take (8 * n) c.args.zeros.now))
-    (omega (arith, cells, long)) c.loop-bucket.invariant.puts e.head e.end e.told e.taken e.crash e.time
+    puts_more disk.image disk.may_leave disk.past disk.moment disk.left_since disk.left_with disk.taken_count c.args.log.now c.loop-bucket.log c.set_cells.new.self c.loop-bucket.bucket (take (8 * n) c.args.zeros.now)
+    (omega (arith, cells, long)) c.loop-bucket.invariant.puts e.head e.end e.told e.taken e.crash e.time e.past e.pasts
 
 pub loop-bucket-preserved : goal.loop-bucket-preserved
 loop-bucket-preserved g c =
@@ -41,8 +41,8 @@ loop-bucket-preserved g c =
           (zero_bytes c.args.zeros.now bytes n c.requires.zeros fits refl) (omega (arith, cells, length-replicate {A = ℕ} n 0)) w.written
           (λ now all zeros. ap (λ (l : List ℕ). put_at b (replicate n 0) l) zeros ∙ zeros_more b n (b + n) old refl (omega (arith, whole, cells)))
           (known is whole));
-      puts = puts_more disk.image disk.may_leave disk.moment disk.left_since disk.taken_count c.args.log.now c.loop-bucket.log c.set_cells.new.self b (length bytes)
-          within c.loop-bucket.invariant.puts e.head e.end e.told e.taken e.crash e.time;
+      puts = puts_more disk.image disk.may_leave disk.past disk.moment disk.left_since disk.left_with disk.taken_count c.args.log.now c.loop-bucket.log c.set_cells.new.self b bytes
+          within c.loop-bucket.invariant.puts e.head e.end e.told e.taken e.crash e.time e.past e.pasts;
       there = long_put (disk.image (log_disk c.loop-bucket.log)) _ (base_of p) (64 + 8 * b) bytes within c.loop-bucket.invariant.there w.written;
       within = cells;
       count = w.cause.kept ∙ c.loop-bucket.invariant.count;

@@ -16,7 +16,7 @@ invariant-loop-bucket g l =
     record {
       written : (c : Closing) (old : List ℕ) (groups : List Group) → IfSome (disk.image (log_disk l.fn.log)) (λ f. f ≡ text_with h c old groups → length old ≡ 2 ^ h.p
           → HasHeads h c groups (disk.image (log_disk l.log)) (λ now. now ≡ replicate l.bucket 0 ++ drop l.bucket old));
-      puts : Puts disk.image disk.may_leave disk.moment disk.left_since disk.taken_count l.fn.log l.log;
+      puts : Puts disk.image disk.may_leave disk.past disk.moment disk.left_since disk.left_with disk.taken_count l.fn.log l.log;
       there : IfSome (disk.image (log_disk l.log)) (λ f. base_of h.p ≤ length f);
       within : l.bucket ≤ 2 ^ h.p;
       count : disk.fault_count (log_disk l.log) ≡ disk.fault_count (log_disk l.fn.log);

@@ -11,7 +11,7 @@ invariant-loop-at g l = record {
   few : l.most ≤ 1024;
   empty : IfSome (g.D.Disk.image l.initial.disk) (λ f. 64 + 8 * l.end ≤ length f → (i : ℕ) → l.at ≤ i → i < l.end → u64_in f (64 + 8 * i) ≡ 0);
   image : g.D.Disk.image l.disk ≡ g.D.Disk.image l.initial.disk;
-  still : OnlyReads g.D.Disk.may_leave g.D.Disk.moment g.D.Disk.left_since l.initial.disk l.disk;
+  still : OnlyReads g.D.Disk.may_leave g.D.Disk.moment g.D.Disk.left_since g.D.Disk.past g.D.Disk.left_with l.initial.disk l.disk;
   taken : g.D.Disk.taken_count l.initial.disk ≤ g.D.Disk.taken_count l.disk;
   count : g.D.Disk.fault_count l.disk ≡ g.D.Disk.fault_count l.initial.disk;
 }

@@ -34,7 +34,7 @@ loop-place-preserved g c = record {
       goes_on c.args.key.now (g.D.Disk.image c.loop-place.disk) c.args.first xs (g.D.Disk.taken_count c.args.disk.now) (g.D.Disk.taken_count c.loop-place.disk) (g.D.Disk.taken_count c.has_key_at.new.disk) c.loop-place.place (length c.loop-place.buffer)
       (g.D.Disk.image c.args.disk.now) c.has_key_at.new.buffer c.u64_at-link.result c.in_ok-has_key_at.field-0 c.loop-place.invariant.image c.loop-place-test.true c.if-branch.false c.in_ok-has_key_at.ensures.sees c.has_key_at.ensures.cost c.u64_at-link.ensures (c.loop-place.invariant.left xs);
   image = search rules;
-  still = reads_joined g.D.Disk.may_leave g.D.Disk.moment g.D.Disk.left_since g.met.D.Disk.counts_now c.args.disk.now c.loop-place.disk c.has_key_at.new.disk c.loop-place.invariant.still c.has_key_at.ensures.still;
+  still = reads_joined g.D.Disk.may_leave g.D.Disk.moment g.D.Disk.left_since g.D.Disk.past g.D.Disk.left_with g.met.D.Disk.counts_now g.met.D.Disk.counts_with c.args.disk.now c.loop-place.disk c.has_key_at.new.disk c.loop-place.invariant.still c.has_key_at.ensures.still;
   taken = omega (arith, c.has_key_at.ensures.taken, c.loop-place.invariant.taken);
   count = c.in_ok-has_key_at.ensures.cause.kept ∙ c.loop-place.invariant.count;
   long = c.has_key_at.auto.buffer ∙ c.loop-place.invariant.long;

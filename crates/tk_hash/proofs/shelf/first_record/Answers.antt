@@ -13,7 +13,7 @@ loop-bucket-init g c = record {
   shelf = λ groups. shelf_same (g.D.Disk.image c.args.disk.now) c.args.head.now groups c.args.shelf.now;
   most = c.first_bucket-bucket.ensures.below;
   image = refl;
-  still = nothing_read g.D.Disk.may_leave g.D.Disk.moment g.D.Disk.left_since c.args.disk.now;
+  still = nothing_read g.D.Disk.may_leave g.D.Disk.moment g.D.Disk.left_since g.D.Disk.past g.D.Disk.left_with c.args.disk.now;
   taken = omega arith;
   count = refl;
 }
@@ -34,8 +34,8 @@ loop-bucket-preserved g c = record {
   most = omega (arith, c.number_of_buckets-end.ensures, c.in_ok-bucket.ensures.most);
   image = c.next_filled.ensures.image ∙ c.first_in.ensures.image ∙ c.loop-bucket.invariant.image;
   still =
-      reads_joined g.D.Disk.may_leave g.D.Disk.moment g.D.Disk.left_since g.met.D.Disk.counts_now c.args.disk.now c.first_in.new.disk c.next_filled.new.disk
-      (reads_joined g.D.Disk.may_leave g.D.Disk.moment g.D.Disk.left_since g.met.D.Disk.counts_now c.args.disk.now c.loop-bucket.disk c.first_in.new.disk c.loop-bucket.invariant.still c.first_in.ensures.still)
+      reads_joined g.D.Disk.may_leave g.D.Disk.moment g.D.Disk.left_since g.D.Disk.past g.D.Disk.left_with g.met.D.Disk.counts_now g.met.D.Disk.counts_with c.args.disk.now c.first_in.new.disk c.next_filled.new.disk
+      (reads_joined g.D.Disk.may_leave g.D.Disk.moment g.D.Disk.left_since g.D.Disk.past g.D.Disk.left_with g.met.D.Disk.counts_now g.met.D.Disk.counts_with c.args.disk.now c.loop-bucket.disk c.first_in.new.disk c.loop-bucket.invariant.still c.first_in.ensures.still)
       c.next_filled.ensures.still;
   taken = omega (arith, c.loop-bucket.invariant.taken, c.first_in.ensures.taken, c.next_filled.ensures.taken);
   count = c.in_ok-bucket.ensures.cause.kept ∙ c.in_ok-found.ensures.cause.kept ∙ c.loop-bucket.invariant.count;

@@ -13,7 +13,7 @@ loop-end-init g c = record {
   shelf = λ groups. shelf_same (g.D.Disk.image c.args.disk.now) c.args.head.now groups c.args.shelf.now;
   most = c.end_bucket-end.ensures.below;
   image = refl;
-  still = nothing_read g.D.Disk.may_leave g.D.Disk.moment g.D.Disk.left_since c.args.disk.now;
+  still = nothing_read g.D.Disk.may_leave g.D.Disk.moment g.D.Disk.left_since g.D.Disk.past g.D.Disk.left_with c.args.disk.now;
   taken = omega arith;
   count = refl;
 }
@@ -34,8 +34,8 @@ loop-end-preserved g c = record {
   most = omega (arith, c.loop-end.invariant.most, c.in_ok-end.ensures.most);
   image = c.filled_below.ensures.image ∙ c.last_in.ensures.image ∙ c.loop-end.invariant.image;
   still =
-      reads_joined g.D.Disk.may_leave g.D.Disk.moment g.D.Disk.left_since g.met.D.Disk.counts_now c.args.disk.now c.last_in.new.disk c.filled_below.new.disk
-      (reads_joined g.D.Disk.may_leave g.D.Disk.moment g.D.Disk.left_since g.met.D.Disk.counts_now c.args.disk.now c.loop-end.disk c.last_in.new.disk c.loop-end.invariant.still c.last_in.ensures.still)
+      reads_joined g.D.Disk.may_leave g.D.Disk.moment g.D.Disk.left_since g.D.Disk.past g.D.Disk.left_with g.met.D.Disk.counts_now g.met.D.Disk.counts_with c.args.disk.now c.last_in.new.disk c.filled_below.new.disk
+      (reads_joined g.D.Disk.may_leave g.D.Disk.moment g.D.Disk.left_since g.D.Disk.past g.D.Disk.left_with g.met.D.Disk.counts_now g.met.D.Disk.counts_with c.args.disk.now c.loop-end.disk c.last_in.new.disk c.loop-end.invariant.still c.last_in.ensures.still)
       c.filled_below.ensures.still;
   taken = omega (arith, c.loop-end.invariant.taken, c.last_in.ensures.taken, c.filled_below.ensures.taken);
   count = c.in_ok-end.ensures.cause.kept ∙ c.in_ok-found.ensures.cause.kept ∙ c.loop-end.invariant.count;

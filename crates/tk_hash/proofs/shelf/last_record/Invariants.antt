@@ -10,7 +10,7 @@ invariant-loop-end g l = record {
   shelf : (groups : List Group) → ShelfKept (g.D.Disk.image l.initial.disk) l.head groups l.initial.shelf l.shelf;
   most : l.end ≤ 2 ^ l.head.p;
   image : g.D.Disk.image l.disk ≡ g.D.Disk.image l.initial.disk;
-  still : OnlyReads g.D.Disk.may_leave g.D.Disk.moment g.D.Disk.left_since l.initial.disk l.disk;
+  still : OnlyReads g.D.Disk.may_leave g.D.Disk.moment g.D.Disk.left_since g.D.Disk.past g.D.Disk.left_with l.initial.disk l.disk;
   taken : g.D.Disk.taken_count l.initial.disk ≤ g.D.Disk.taken_count l.disk;
   count : g.D.Disk.fault_count l.disk ≡ g.D.Disk.fault_count l.initial.disk;
 }

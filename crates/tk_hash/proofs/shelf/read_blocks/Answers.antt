@@ -7,7 +7,7 @@ pub loop-i-init : goal.loop-i-init
 loop-i-init g c = record {
   value = λ blocks. none_left (g.D.Disk.image c.args.disk.now) blocks c.args.places.now c.args.records.now c.requires;
   image = refl;
-  still = nothing_read g.D.Disk.may_leave g.D.Disk.moment g.D.Disk.left_since c.args.disk.now;
+  still = nothing_read g.D.Disk.may_leave g.D.Disk.moment g.D.Disk.left_since g.D.Disk.past g.D.Disk.left_with c.args.disk.now;
   taken = omega arith;
   count = refl;
 }
@@ -18,7 +18,7 @@ loop-i-preserved g c = record {
       left_next (g.D.Disk.image c.args.disk.now) (g.D.Disk.image c.loop-i.disk) blocks c.args.places.now c.loop-i.i _ c.in_ok-change.change c.loop-i.records c.apply.new.self c.loop-i.invariant.image c.in_ok-change.ensures.says
       refl (omega arith) (omega arith) c.in_ok-apply.ensures.ok (c.loop-i.invariant.value blocks);
   image = c.change_at.ensures.image ∙ c.loop-i.invariant.image;
-  still = reads_joined g.D.Disk.may_leave g.D.Disk.moment g.D.Disk.left_since g.met.D.Disk.counts_now c.args.disk.now c.loop-i.disk c.change_at.new.disk c.loop-i.invariant.still c.change_at.ensures.still;
+  still = reads_joined g.D.Disk.may_leave g.D.Disk.moment g.D.Disk.left_since g.D.Disk.past g.D.Disk.left_with g.met.D.Disk.counts_now g.met.D.Disk.counts_with c.args.disk.now c.loop-i.disk c.change_at.new.disk c.loop-i.invariant.still c.change_at.ensures.still;
   taken = omega arith;
   count = c.in_ok-change.ensures.cause.kept ∙ c.loop-i.invariant.count;
 }

@@ -9,7 +9,7 @@ abbrev pub invariant-loop-i : goal.invariant-loop-i
 invariant-loop-i g l = record {
   value : (blocks : List Placed) → IfSome (g.D.Disk.image l.initial.disk) (λ f. AllStand f blocks → l.places ≡ places_in blocks → l.records ≡ left_by (drop l.i blocks));
   image : g.D.Disk.image l.disk ≡ g.D.Disk.image l.initial.disk;
-  still : OnlyReads g.D.Disk.may_leave g.D.Disk.moment g.D.Disk.left_since l.initial.disk l.disk;
+  still : OnlyReads g.D.Disk.may_leave g.D.Disk.moment g.D.Disk.left_since g.D.Disk.past g.D.Disk.left_with l.initial.disk l.disk;
   taken : g.D.Disk.taken_count l.initial.disk ≤ g.D.Disk.taken_count l.disk;
   count : g.D.Disk.fault_count l.disk ≡ g.D.Disk.fault_count l.initial.disk;
 }

@@ -1,6 +1,4 @@
-use Rattle.std.proofs.Common.{sym, ◌∙◌, ap}
-use Rattle.tk_model.specs.Orders.{key_cmp}
-use Rattle.tk_model.specs.declared.record.Pair.{Pair}
+use Rattle.std.proofs.Common.{sym, ◌∙◌}
 use Rattle.tk_model.proofs.PlaceSteps.{goes_at}
 use Rattle.tk_model.specs.declared.record.Order.TheVariants.{Hash}
 use Rattle.tk_store.proofs.hashed.place_to_put.Goals as goal
@@ -8,4 +6,4 @@ use Rattle.tk_store.proofs.hashed.place_to_put.Goals as goal
 pub returns-in-Equal : goal.returns-in-Equal
 returns-in-Equal c =
     goes_at Hash c.args.key.now c.args.pairs.now c.loop-i.i c.index-pairs-i.result c.loop-i-test.true c.index-pairs-i.is
-    (ap (λ (p : Pair). key_cmp Hash c.args.key.now p.key) c.index-pairs-i.is ∙ ap (key_cmp Hash c.args.key.now) (sym c.as_slice.ensures) ∙ sym c.compare_keys.ensures ∙ c.in-Equal.is) c.loop-i.invariant
+    (sym c.compare.ensures ∙ c.in-Equal.is) c.loop-i.invariant

@@ -1,9 +1,11 @@
-use Rattle.std.proofs.Common.{ℕ, ◌+◌, List, length, sym, ◌∙◌, ap, subst, arith}
-use Rattle.tk_disk.specs.Crash.{Torn, Follows, LeavesOnly}
+use Rattle.std.proofs.Common.{inl, ℕ, ◌+◌, List, length, sym, ◌∙◌, ap, subst, refl, arith}
+use Rattle.tk_disk.specs.Crash.{Torn, Follows, LeavesOnly, PastOnly}
+use Rattle.tk_disk.specs.Past.{Writes}
 use Rattle.tk_disk.proofs.Moments.{TornOf, leaves_torn}
 use Rattle.tk_block.specs.Blocks.{group_bodies}
 use Rattle.tk_block.specs.Layout.{end_of}
 use Rattle.tk_append.proofs.LogSteps.{ready_text, text_is, end_is, written_end, end_more, there_more}
+use Rattle.tk_append.proofs.PastSteps.{past_held}
 use Rattle.tk_append.proofs.log.GroupLog.append.Goals as goal
 
 pub renumber-requires : goal.renumber-requires
@@ -65,3 +67,25 @@ returns-clause-time g c = λ cs links ready.
     subst (λ (l : List ℕ). LeavesOnly g.D.Disk.moment g.D.Disk.left_since c.args.self.now.disk c.write_at.new.self (TornOf g.D.Disk.may_leave g.D.Disk.moment g.D.Disk.left_since c.args.self.now.disk c.args.self.now.end (length l)))
     (c.as_slice.ensures ∙ text_is c.args.self.now c.args.number _ cs links ready c.renumber.ensures)
     (leaves_torn g.D.Disk.may_leave g.D.Disk.moment g.D.Disk.left_since g.met.D.Disk.only_now _ _ _ _ c.write_at.ensures.crash c.write_at.ensures.time)
+
+pub returns-in_err-write_at-clause-past : goal.returns-in_err-write_at-clause-past
+returns-in_err-write_at-clause-past g c = λ cs links ready.
+    subst (λ (l : List ℕ). Writes c.args.self.now.end l (g.D.Disk.past c.args.self.now.disk) (g.D.Disk.past c.write_at.new.self))
+    (c.as_slice.ensures ∙ text_is c.args.self.now c.args.number _ cs links ready c.renumber.ensures) c.write_at.ensures.past
+
+pub returns-in_err-write_at-clause-pasts : goal.returns-in_err-write_at-clause-pasts
+returns-in_err-write_at-clause-pasts g c = λ cs links ready.
+    subst (λ (l : List ℕ). PastOnly g.D.Disk.moment g.D.Disk.left_with c.args.self.now.disk c.write_at.new.self (Writes c.args.self.now.end l (g.D.Disk.past c.args.self.now.disk)))
+    (c.as_slice.ensures ∙ text_is c.args.self.now c.args.number _ cs links ready c.renumber.ensures)
+    (past_held g.D.Disk.may_leave g.D.Disk.moment g.D.Disk.past g.D.Disk.left_with g.met.D.Disk.only_with _ _ _ c.write_at.ensures.pasts (inl refl) c.write_at.ensures.past)
+
+pub returns-clause-past : goal.returns-clause-past
+returns-clause-past g c = λ cs links ready.
+    subst (λ (l : List ℕ). Writes c.args.self.now.end l (g.D.Disk.past c.args.self.now.disk) (g.D.Disk.past c.write_at.new.self))
+    (c.as_slice.ensures ∙ text_is c.args.self.now c.args.number _ cs links ready c.renumber.ensures) c.write_at.ensures.past
+
+pub returns-clause-pasts : goal.returns-clause-pasts
+returns-clause-pasts g c = λ cs links ready.
+    subst (λ (l : List ℕ). PastOnly g.D.Disk.moment g.D.Disk.left_with c.args.self.now.disk c.write_at.new.self (Writes c.args.self.now.end l (g.D.Disk.past c.args.self.now.disk)))
+    (c.as_slice.ensures ∙ text_is c.args.self.now c.args.number _ cs links ready c.renumber.ensures)
+    (past_held g.D.Disk.may_leave g.D.Disk.moment g.D.Disk.past g.D.Disk.left_with g.met.D.Disk.only_with _ _ _ c.write_at.ensures.pasts (inl refl) c.write_at.ensures.past)

@@ -5,19 +5,20 @@ use Rattle.tk_hash.proofs.HashOpens.{closed_header, opened}
 use Rattle.tk_hash.proofs.store.HashStore.of_log.Goals as goal
 
 pub begin-requires : goal.begin-requires
-begin-requires g c = record { there = closed_header g.D.Disk.image g.D.Disk.may_leave c.args.log c.args.closing c.requires.whole.0 c.requires.whole.1 }
+begin-requires g c = record { there = closed_header g.D.Disk.image g.D.Disk.may_leave g.D.Disk.past c.args.log c.args.closing c.args.heads.items c.requires.whole.0 c.requires.whole.1 }
 
 pub returns-in-Ok-clause-stands : goal.returns-in-Ok-clause-stands
 returns-in-Ok-clause-stands g c groups is =
-    opened g.D.Disk.image g.D.Disk.may_leave _ c.args.log c.args.closing groups is
+    opened g.D.Disk.image g.D.Disk.may_leave g.D.Disk.past _ c.args.log c.args.closing c.args.heads.items groups is
     (record {
       read_bytes = c.begin.ensures.reads;
       read_closing = c.in-Ok.ensures.same;
       open_bytes = c.in-Ok.ensures.marked;
       open_closing = c.in-Ok.ensures.open;
       durable = c.in-Ok.ensures.durable;
+      settled = c.in-Ok.ensures.settled;
     })
-    c.begin.ensures.head c.begin.ensures.end refl refl refl c.requires.buffer refl
+    c.begin.ensures.head c.begin.ensures.end refl refl refl refl c.new.ensures c.requires.buffer refl
 
 pub returns-in-Err-clause-back_time : goal.returns-in-Err-clause-back_time
 returns-in-Err-clause-back_time g c =

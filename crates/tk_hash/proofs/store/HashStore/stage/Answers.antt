@@ -1,4 +1,4 @@
-use Rattle.std.proofs.Common.{◌≡◌, ◌++◌, [], length, refl, sym, ◌∙◌, ap, subst, arith}
+use Rattle.std.proofs.Common.{◌≡◌, ℕ, List, ◌++◌, ◌^◌, [], length, refl, sym, ◌∙◌, ap, subst, arith}
 use Rattle.tk_block.specs.declared.head.StaticHead.{StaticHead}
 use Rattle.tk_block.specs.Blocks.{group_bodies}
 use Rattle.tk_block.specs.Layout.{laid, links_of}
@@ -6,44 +6,52 @@ use Rattle.tk_model.specs.Records.{after, replay}
 use Rattle.tk_model.specs.declared.record.Order.TheVariants.{Hash}
 use Rattle.tk_append.specs.Chains.{HeadsAre}
 use Rattle.tk_append.specs.Log.{blocks_of}
+use Rattle.std.specs.Prelude.{IfSome}
+use Rattle.tk_append.specs.FileText.{IsFile}
 use Rattle.tk_append.specs.LogParts.{log_disk, log_head, log_end}
 use Rattle.tk_hash.specs.Plan.{with_heads, FitHeads}
 use Rattle.tk_hash.proofs.Extents.{ends_sum}
-use Rattle.tk_hash.proofs.HashKeeps.{same_read, shelf_same, still_at, still_on, read_on, stood_on, length-lent}
+use Rattle.tk_hash.proofs.HashKeeps.{same_read, shelf_same, still_at, still_on, read_on, stood_on, heads_at, key_at, length-lent}
 use Rattle.tk_hash.proofs.HashGrows.{planned}
 use Rattle.tk_hash.proofs.store.HashStore.stage.Goals as goal
 
 pub plan_changes-requires-clause-end : goal.plan_changes-requires-clause-end
 plan_changes-requires-clause-end g c = rw c.end-end.ensures (omega (arith, ends_sum 0 (log_end c.args.self.now.log) c.args.changes.now, c.requires.end))
 
+pub plan_changes-requires-clause-heads : goal.plan_changes-requires-clause-heads
+plan_changes-requires-clause-heads g c = heads_at g.D.Disk.image g.D.Disk.may_leave g.D.Disk.past c.args.self.now c.disk.result.now c.head.result.now c.deref.result.now c.requires.whole c.disk.ensures.value c.head.ensures c.deref.ensures.value
+
+pub plan_changes-requires-clause-found : goal.plan_changes-requires-clause-found
+plan_changes-requires-clause-found g c = key_at g.D.Disk.image g.D.Disk.may_leave g.D.Disk.past c.args.self.now c.disk.result.now c.head.result.now c.requires.whole c.disk.ensures.value c.head.ensures
+
 pub prepare-requires-clause-end : goal.prepare-requires-clause-end
 prepare-requires-clause-end g c = omega (arith, ends_sum 0 (log_end c.args.self.now.log) c.args.changes.now, c.requires.end)
 
 pub returns-in_err-plan-clause-stands : goal.returns-in_err-plan-clause-stands
 returns-in_err-plan-clause-stands g c first since hard st =
-    read_on g.D.Disk.image g.D.Disk.may_leave c.args.self.now _ first since hard
-    (same_read g.D.Disk.image c.args.self.now _ c.disk.result.now c.disk.ensures.value (λ unclosed. unclosed) refl refl refl refl refl refl refl (length-lent c.args.self.now.buffer c.plan_changes.new.buffer) c.plan_changes.ensures.image)
+    read_on g.D.Disk.image g.D.Disk.may_leave g.D.Disk.past g.D.Disk.moment g.D.Disk.left_since g.D.Disk.left_with c.args.self.now _ first since hard
+    (same_read g.D.Disk.image c.args.self.now _ c.disk.result.now c.disk.ensures.value (λ unclosed. unclosed) refl refl refl refl refl refl refl refl (λ known. known) (length-lent c.args.self.now.buffer c.plan_changes.new.buffer) c.plan_changes.ensures.image)
     (shelf_same g.D.Disk.image c.args.self.now)
-    (still_at g.D.Disk.image g.D.Disk.may_leave g.D.Disk.moment g.D.Disk.left_since _ _ _ c.disk.ensures.value c.plan_changes.ensures.still).crash st
+    (still_at g.D.Disk.image g.D.Disk.may_leave g.D.Disk.past g.D.Disk.moment g.D.Disk.left_since g.D.Disk.left_with _ _ _ c.disk.ensures.value c.plan_changes.ensures.still) st
 
 pub returns-in_err-plan-clause-since : goal.returns-in_err-plan-clause-since
 returns-in_err-plan-clause-since g c t n first since hard st =
-    stood_on g.D.Disk.image g.D.Disk.may_leave g.D.Disk.moment g.D.Disk.left_since c.args.self.now _ t n first since hard
-    (same_read g.D.Disk.image c.args.self.now _ c.disk.result.now c.disk.ensures.value (λ unclosed. unclosed) refl refl refl refl refl refl refl (length-lent c.args.self.now.buffer c.plan_changes.new.buffer) c.plan_changes.ensures.image)
+    stood_on g.D.Disk.image g.D.Disk.may_leave g.D.Disk.past g.D.Disk.moment g.D.Disk.left_since g.D.Disk.left_with g.met.D.Disk.since_with c.args.self.now _ t n first since hard
+    (same_read g.D.Disk.image c.args.self.now _ c.disk.result.now c.disk.ensures.value (λ unclosed. unclosed) refl refl refl refl refl refl refl refl (λ known. known) (length-lent c.args.self.now.buffer c.plan_changes.new.buffer) c.plan_changes.ensures.image)
     (shelf_same g.D.Disk.image c.args.self.now)
-    (still_at g.D.Disk.image g.D.Disk.may_leave g.D.Disk.moment g.D.Disk.left_since _ _ _ c.disk.ensures.value c.plan_changes.ensures.still) st
+    (still_at g.D.Disk.image g.D.Disk.may_leave g.D.Disk.past g.D.Disk.moment g.D.Disk.left_since g.D.Disk.left_with _ _ _ c.disk.ensures.value c.plan_changes.ensures.still) st
 
 pub returns-in_err-prepare-clause-stands : goal.returns-in_err-prepare-clause-stands
 returns-in_err-prepare-clause-stands g c first since hard st =
-    read_on g.D.Disk.image g.D.Disk.may_leave c.args.self.now _ first since hard
-    (same_read g.D.Disk.image c.args.self.now _ c.disk.result.now c.disk.ensures.value (λ unclosed. unclosed) c.prepare.ensures.head c.prepare.ensures.end refl refl refl refl refl (length-lent c.args.self.now.buffer c.plan_changes.new.buffer) (ap g.D.Disk.image c.prepare.ensures.disk ∙ c.plan_changes.ensures.image))
-    (shelf_same g.D.Disk.image c.args.self.now) (still_on g.D.Disk.image g.D.Disk.may_leave g.D.Disk.moment g.D.Disk.left_since _ _ _ _ c.disk.ensures.value c.prepare.ensures.disk c.plan_changes.ensures.still).crash st
+    read_on g.D.Disk.image g.D.Disk.may_leave g.D.Disk.past g.D.Disk.moment g.D.Disk.left_since g.D.Disk.left_with c.args.self.now _ first since hard
+    (same_read g.D.Disk.image c.args.self.now _ c.disk.result.now c.disk.ensures.value (λ unclosed. unclosed) c.prepare.ensures.head c.prepare.ensures.end refl refl refl refl refl refl (λ known. known) (length-lent c.args.self.now.buffer c.plan_changes.new.buffer) (ap g.D.Disk.image c.prepare.ensures.disk ∙ c.plan_changes.ensures.image))
+    (shelf_same g.D.Disk.image c.args.self.now) (still_on g.D.Disk.image g.D.Disk.may_leave g.D.Disk.past g.D.Disk.moment g.D.Disk.left_since g.D.Disk.left_with _ _ _ _ c.disk.ensures.value c.prepare.ensures.disk c.plan_changes.ensures.still) st
 
 pub returns-in_err-prepare-clause-since : goal.returns-in_err-prepare-clause-since
 returns-in_err-prepare-clause-since g c t n first since hard st =
-    stood_on g.D.Disk.image g.D.Disk.may_leave g.D.Disk.moment g.D.Disk.left_since c.args.self.now _ t n first since hard
-    (same_read g.D.Disk.image c.args.self.now _ c.disk.result.now c.disk.ensures.value (λ unclosed. unclosed) c.prepare.ensures.head c.prepare.ensures.end refl refl refl refl refl (length-lent c.args.self.now.buffer c.plan_changes.new.buffer) (ap g.D.Disk.image c.prepare.ensures.disk ∙ c.plan_changes.ensures.image))
-    (shelf_same g.D.Disk.image c.args.self.now) (still_on g.D.Disk.image g.D.Disk.may_leave g.D.Disk.moment g.D.Disk.left_since _ _ _ _ c.disk.ensures.value c.prepare.ensures.disk c.plan_changes.ensures.still) st
+    stood_on g.D.Disk.image g.D.Disk.may_leave g.D.Disk.past g.D.Disk.moment g.D.Disk.left_since g.D.Disk.left_with g.met.D.Disk.since_with c.args.self.now _ t n first since hard
+    (same_read g.D.Disk.image c.args.self.now _ c.disk.result.now c.disk.ensures.value (λ unclosed. unclosed) c.prepare.ensures.head c.prepare.ensures.end refl refl refl refl refl refl (λ known. known) (length-lent c.args.self.now.buffer c.plan_changes.new.buffer) (ap g.D.Disk.image c.prepare.ensures.disk ∙ c.plan_changes.ensures.image))
+    (shelf_same g.D.Disk.image c.args.self.now) (still_on g.D.Disk.image g.D.Disk.may_leave g.D.Disk.past g.D.Disk.moment g.D.Disk.left_since g.D.Disk.left_with _ _ _ _ c.disk.ensures.value c.prepare.ensures.disk c.plan_changes.ensures.still) st
 
 pub returns-clause-staged : goal.returns-clause-staged
 returns-clause-staged g c =
@@ -58,23 +66,25 @@ returns-clause-staged g c =
     let end : log_end log ≡ c.end-end.result = c.prepare.ensures.end ∙ sym c.end-end.ensures in
     record {
       some = c.requires.some;
-      heads = subst (λ (h : StaticHead). FitHeads h.p heads) (sym head) c.in_ok-plan.ensures.fit;
+      heads = subst (λ (h : StaticHead). FitHeads (2 ^ h.p) heads) (sym head) c.in_ok-plan.ensures.fit;
       links = links;
       ready = c.in_ok-prepare.ensures.ready;
       ends = λ number. rw c.prepare.ensures.end (omega (arith, ends_sum number (log_end c.args.self.now.log) changes, c.requires.end));
       links_are = λ number groups. planned (λ h e. links ≡ links_of h.p (blocks_of h groups) (laid e (group_bodies number changes))) groups _ _ _ _ _ _ bytes head end (c.in_ok-plan.ensures.links number groups);
-      heads_are = λ number groups old. planned (λ h e. HeadsAre h.p old (blocks_of h groups) → HeadsAre h.p (with_heads heads old) (blocks_of h groups ++ laid e (group_bodies number changes))) groups _ _ _ _ _ _ bytes head end (c.in_ok-plan.ensures.heads number groups old);
+      heads_are = λ number groups. planned (λ h e. HeadsAre h.p (with_heads heads c.args.self.now.heads.items) (blocks_of h groups ++ laid e (group_bodies number changes))) groups _ _ _ _ _ _ bytes head end
+          (subst (λ (l : List ℕ). IfSome (g.D.Disk.image c.disk.result.now) (λ f. IsFile c.head.result.now f groups → HeadsAre c.head.result.now.p (with_heads heads l) (blocks_of c.head.result.now groups ++ laid c.end-end.result (group_bodies number changes)))) c.deref.ensures.value
+          (c.in_ok-plan.ensures.heads number groups));
       count_is = λ groups. planned (λ h e. was ≡ length (replay Hash groups []) → count ≡ length (after Hash changes (replay Hash groups []))) groups _ _ _ _ _ _ bytes head end (c.in_ok-plan.ensures.count groups);
     }
 
 pub returns-clause-stands : goal.returns-clause-stands
 returns-clause-stands g c first since hard st =
-    read_on g.D.Disk.image g.D.Disk.may_leave c.args.self.now _ first since hard
-    (same_read g.D.Disk.image c.args.self.now _ c.disk.result.now c.disk.ensures.value (λ unclosed. unclosed) c.prepare.ensures.head c.prepare.ensures.end refl refl refl refl refl (length-lent c.args.self.now.buffer c.plan_changes.new.buffer) (ap g.D.Disk.image c.prepare.ensures.disk ∙ c.plan_changes.ensures.image))
-    (shelf_same g.D.Disk.image c.args.self.now) (still_on g.D.Disk.image g.D.Disk.may_leave g.D.Disk.moment g.D.Disk.left_since _ _ _ _ c.disk.ensures.value c.prepare.ensures.disk c.plan_changes.ensures.still).crash st
+    read_on g.D.Disk.image g.D.Disk.may_leave g.D.Disk.past g.D.Disk.moment g.D.Disk.left_since g.D.Disk.left_with c.args.self.now _ first since hard
+    (same_read g.D.Disk.image c.args.self.now _ c.disk.result.now c.disk.ensures.value (λ unclosed. unclosed) c.prepare.ensures.head c.prepare.ensures.end refl refl refl refl refl refl (λ known. known) (length-lent c.args.self.now.buffer c.plan_changes.new.buffer) (ap g.D.Disk.image c.prepare.ensures.disk ∙ c.plan_changes.ensures.image))
+    (shelf_same g.D.Disk.image c.args.self.now) (still_on g.D.Disk.image g.D.Disk.may_leave g.D.Disk.past g.D.Disk.moment g.D.Disk.left_since g.D.Disk.left_with _ _ _ _ c.disk.ensures.value c.prepare.ensures.disk c.plan_changes.ensures.still) st
 
 pub returns-clause-since : goal.returns-clause-since
 returns-clause-since g c t n first since hard st =
-    stood_on g.D.Disk.image g.D.Disk.may_leave g.D.Disk.moment g.D.Disk.left_since c.args.self.now _ t n first since hard
-    (same_read g.D.Disk.image c.args.self.now _ c.disk.result.now c.disk.ensures.value (λ unclosed. unclosed) c.prepare.ensures.head c.prepare.ensures.end refl refl refl refl refl (length-lent c.args.self.now.buffer c.plan_changes.new.buffer) (ap g.D.Disk.image c.prepare.ensures.disk ∙ c.plan_changes.ensures.image))
-    (shelf_same g.D.Disk.image c.args.self.now) (still_on g.D.Disk.image g.D.Disk.may_leave g.D.Disk.moment g.D.Disk.left_since _ _ _ _ c.disk.ensures.value c.prepare.ensures.disk c.plan_changes.ensures.still) st
+    stood_on g.D.Disk.image g.D.Disk.may_leave g.D.Disk.past g.D.Disk.moment g.D.Disk.left_since g.D.Disk.left_with g.met.D.Disk.since_with c.args.self.now _ t n first since hard
+    (same_read g.D.Disk.image c.args.self.now _ c.disk.result.now c.disk.ensures.value (λ unclosed. unclosed) c.prepare.ensures.head c.prepare.ensures.end refl refl refl refl refl refl (λ known. known) (length-lent c.args.self.now.buffer c.plan_changes.new.buffer) (ap g.D.Disk.image c.prepare.ensures.disk ∙ c.plan_changes.ensures.image))
+    (shelf_same g.D.Disk.image c.args.self.now) (still_on g.D.Disk.image g.D.Disk.may_leave g.D.Disk.past g.D.Disk.moment g.D.Disk.left_since g.D.Disk.left_with _ _ _ _ c.disk.ensures.value c.prepare.ensures.disk c.plan_changes.ensures.still) st

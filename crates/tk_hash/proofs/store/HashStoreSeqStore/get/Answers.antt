@@ -1,32 +1,63 @@
-use Rattle.std.proofs.Common.{◌+◌, ◌≤◌, [], refl}
-use Rattle.std.specs.Prelude.{IfOk}
+use Rattle.std.proofs.Common.{rules, ◌+◌, ◌≤◌, [], refl}
 use Rattle.tk_model.specs.Records.{find, replay}
 use Rattle.tk_model.specs.declared.record.Order.TheVariants.{Hash}
 use Rattle.tk_store.specs.Store.{Gives}
 use Rattle.tk_hash.specs.Chain.{cost_in}
-use Rattle.tk_hash.proofs.HashKeeps.{same_read, told_by, still_at, read_on, stood_on, shelf_same, length-lent}
+use Rattle.tk_hash.proofs.HashKeeps.{same_read, told_by, key_given, still_at, read_on, stood_on, shelf_same, heads_at, length-lent}
 use Rattle.tk_hash.proofs.store.HashStoreSeqStore.get.Goals as goal
+
+pub get_value-requires-clause-heads : goal.get_value-requires-clause-heads
+get_value-requires-clause-heads g c = heads_at g.D.Disk.image g.D.Disk.may_leave g.D.Disk.past c.args.self.now c.disk.result.now c.head.result.now c.deref.result.now c.requires.whole c.disk.ensures.value c.head.ensures c.deref.ensures.value
+
+pub returns-in_err-present-clause-cost : goal.returns-in_err-present-clause-cost
+returns-in_err-present-clause-cost g c =
+    told_by g.D.Disk.image g.D.Disk.may_leave g.D.Disk.past c.args.self.now c.disk.result.now c.head.result.now c.requires.whole c.disk.ensures.value c.head.ensures (λ h gs. cost_in h gs c.args.key.now)
+    (λ d most. g.D.Disk.taken_count c.get_value.new.disk ≤ g.D.Disk.taken_count d + most) c.get_value.ensures.cost
+
+pub returns-in_err-present-clause-looks : goal.returns-in_err-present-clause-looks
+returns-in_err-present-clause-looks g c =
+    let still = still_at g.D.Disk.image g.D.Disk.may_leave g.D.Disk.past g.D.Disk.moment g.D.Disk.left_since g.D.Disk.left_with _ _ _ c.disk.ensures.value c.get_value.ensures.still in
+    record {
+      same_nature = search rules;
+      same_shown = search rules;
+      keeps = λ first since hard st.
+          read_on g.D.Disk.image g.D.Disk.may_leave g.D.Disk.past g.D.Disk.moment g.D.Disk.left_since g.D.Disk.left_with c.args.self.now _ first since hard
+          (same_read g.D.Disk.image c.args.self.now _ c.disk.result.now c.disk.ensures.value (λ unclosed. unclosed) refl refl refl refl refl refl refl refl (λ known. known) (length-lent c.args.self.now.buffer c.get_value.new.buffer) c.get_value.ensures.image)
+          (shelf_same g.D.Disk.image c.args.self.now) still st;
+      keeps_since = λ t n first since hard st.
+          stood_on g.D.Disk.image g.D.Disk.may_leave g.D.Disk.past g.D.Disk.moment g.D.Disk.left_since g.D.Disk.left_with g.met.D.Disk.since_with c.args.self.now _ t n first since hard
+          (same_read g.D.Disk.image c.args.self.now _ c.disk.result.now c.disk.ensures.value (λ unclosed. unclosed) refl refl refl refl refl refl refl refl (λ known. known) (length-lent c.args.self.now.buffer c.get_value.new.buffer) c.get_value.ensures.image)
+          (shelf_same g.D.Disk.image c.args.self.now) still st;
+      writes_nothing = record { same = search rules; still = still };
+      later = search rules;
+      more_taken = search rules;
+    }
 
 pub returns-clause-value : goal.returns-clause-value
 returns-clause-value g c =
-    told_by g.D.Disk.image g.D.Disk.may_leave c.args.self.now c.disk.result.now c.head.result.now c.requires.whole c.disk.ensures.value c.head.ensures (λ h gs. replay Hash gs [])
-    (λ d m. IfOk c.get_value.result (Gives (find c.args.key.now m) c.args.out.now c.get_value.new.out)) c.get_value.ensures.value
+    told_by g.D.Disk.image g.D.Disk.may_leave g.D.Disk.past c.args.self.now c.disk.result.now c.head.result.now c.requires.whole c.disk.ensures.value c.head.ensures (λ h gs. replay Hash gs [])
+    (λ d m. Gives (find c.args.key.now m) c.args.out.now c.get_value.new.out c.in_ok-present.present) c.in_ok-present.ensures.value
 
 pub returns-clause-cost : goal.returns-clause-cost
 returns-clause-cost g c =
-    told_by g.D.Disk.image g.D.Disk.may_leave c.args.self.now c.disk.result.now c.head.result.now c.requires.whole c.disk.ensures.value c.head.ensures (λ h gs. cost_in h gs c.args.key.now)
+    told_by g.D.Disk.image g.D.Disk.may_leave g.D.Disk.past c.args.self.now c.disk.result.now c.head.result.now c.requires.whole c.disk.ensures.value c.head.ensures (λ h gs. cost_in h gs c.args.key.now)
     (λ d most. g.D.Disk.taken_count c.get_value.new.disk ≤ g.D.Disk.taken_count d + most) c.get_value.ensures.cost
 
-pub returns-clause-stands : goal.returns-clause-stands
-returns-clause-stands g c first since hard st =
-    read_on g.D.Disk.image g.D.Disk.may_leave c.args.self.now _ first since hard
-    (same_read g.D.Disk.image c.args.self.now _ c.disk.result.now c.disk.ensures.value (λ unclosed. unclosed) refl refl refl refl refl refl refl (length-lent c.args.self.now.buffer c.get_value.new.buffer) c.get_value.ensures.image)
-    (shelf_same g.D.Disk.image c.args.self.now)
-    (still_at g.D.Disk.image g.D.Disk.may_leave g.D.Disk.moment g.D.Disk.left_since _ _ _ c.disk.ensures.value c.get_value.ensures.still).crash st
-
-pub returns-clause-since : goal.returns-clause-since
-returns-clause-since g c t n first since hard st =
-    stood_on g.D.Disk.image g.D.Disk.may_leave g.D.Disk.moment g.D.Disk.left_since c.args.self.now _ t n first since hard
-    (same_read g.D.Disk.image c.args.self.now _ c.disk.result.now c.disk.ensures.value (λ unclosed. unclosed) refl refl refl refl refl refl refl (length-lent c.args.self.now.buffer c.get_value.new.buffer) c.get_value.ensures.image)
-    (shelf_same g.D.Disk.image c.args.self.now)
-    (still_at g.D.Disk.image g.D.Disk.may_leave g.D.Disk.moment g.D.Disk.left_since _ _ _ c.disk.ensures.value c.get_value.ensures.still) st
+pub returns-clause-looks : goal.returns-clause-looks
+returns-clause-looks g c =
+    let still = still_at g.D.Disk.image g.D.Disk.may_leave g.D.Disk.past g.D.Disk.moment g.D.Disk.left_since g.D.Disk.left_with _ _ _ c.disk.ensures.value c.get_value.ensures.still in
+    record {
+      same_nature = search rules;
+      same_shown = search rules;
+      keeps = λ first since hard st.
+          read_on g.D.Disk.image g.D.Disk.may_leave g.D.Disk.past g.D.Disk.moment g.D.Disk.left_since g.D.Disk.left_with c.args.self.now _ first since hard
+          (same_read g.D.Disk.image c.args.self.now _ c.disk.result.now c.disk.ensures.value (λ unclosed. unclosed) refl refl refl refl refl refl refl refl (λ _. key_given g.D.Disk.image g.D.Disk.may_leave g.D.Disk.past c.args.self.now c.disk.result.now c.head.result.now c.args.key.now c.args.out.now c.get_value.new.out c.in_ok-present.present c.remember.new.self c.requires.whole c.disk.ensures.value c.head.ensures c.in_ok-present.ensures.value c.remember.ensures) (length-lent c.args.self.now.buffer c.get_value.new.buffer) c.get_value.ensures.image)
+          (shelf_same g.D.Disk.image c.args.self.now) still st;
+      keeps_since = λ t n first since hard st.
+          stood_on g.D.Disk.image g.D.Disk.may_leave g.D.Disk.past g.D.Disk.moment g.D.Disk.left_since g.D.Disk.left_with g.met.D.Disk.since_with c.args.self.now _ t n first since hard
+          (same_read g.D.Disk.image c.args.self.now _ c.disk.result.now c.disk.ensures.value (λ unclosed. unclosed) refl refl refl refl refl refl refl refl (λ _. key_given g.D.Disk.image g.D.Disk.may_leave g.D.Disk.past c.args.self.now c.disk.result.now c.head.result.now c.args.key.now c.args.out.now c.get_value.new.out c.in_ok-present.present c.remember.new.self c.requires.whole c.disk.ensures.value c.head.ensures c.in_ok-present.ensures.value c.remember.ensures) (length-lent c.args.self.now.buffer c.get_value.new.buffer) c.get_value.ensures.image)
+          (shelf_same g.D.Disk.image c.args.self.now) still st;
+      writes_nothing = record { same = search rules; still = still };
+      later = search rules;
+      more_taken = search rules;
+    }

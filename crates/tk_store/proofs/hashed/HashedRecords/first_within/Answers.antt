@@ -12,4 +12,4 @@ returns c =
     c.first_from.ensures
     ∙ ap (λ m. first_within Hash bound (joined (drop c.first_bucket-start.result m))) c.as_slice.ensures.value
     ∙ ap (λ i. first_within Hash bound (joined (drop i bs))) c.first_bucket-start.ensures.value
-    ∙ from_start c.self.inside.p bs c.self.inside.count bound c.self.invariant ∙ ap (first_within Hash bound) c.self.view_is
+    ∙ from_start c.self.inside.parting bs c.self.inside.count bound c.self.invariant ∙ ap (first_within Hash bound) c.self.view_is

@@ -5,4 +5,4 @@ use Rattle.tk_store.proofs.Joined.{joined_rising}
 use Rattle.tk_store.proofs.hashed.HashedRecords.in_hash_order.Goals as goal
 
 pub returns : goal.returns
-returns c = subst (Rising Hash) c.self.view_is (joined_rising c.self.inside.p 0 c.self.inside.buckets.items c.self.invariant.placed)
+returns c = subst (Rising Hash) c.self.view_is (joined_rising c.self.inside.parting 0 c.self.inside.buckets.items c.self.invariant.placed)

@@ -12,4 +12,4 @@ returns c =
     c.last_before.ensures
     ∙ ap (λ m. last_within Hash bound (joined (take c.end_bucket-end.result m))) c.as_slice.ensures.value
     ∙ ap (λ i. last_within Hash bound (joined (take i bs))) c.end_bucket-end.ensures.value
-    ∙ before_end c.self.inside.p bs c.self.inside.count bound c.self.invariant (subst (λ i. i ≤ 2 ^ c.self.inside.p) c.end_bucket-end.ensures.value c.end_bucket-end.ensures.below) ∙ ap (last_within Hash bound) c.self.view_is
+    ∙ before_end c.self.inside.parting bs c.self.inside.count bound c.self.invariant (subst (λ i. i ≤ 2 ^ c.self.inside.parting.p) c.end_bucket-end.ensures.value c.end_bucket-end.ensures.below) ∙ ap (last_within Hash bound) c.self.view_is

@@ -1,0 +1,212 @@
+//! Look-ups by key along a chain.
+ghost use Rattle.std.specs.Prelude.{◌≡◌, ◌+◌, ◌-◌, ◌*◌, ◌/◌, ◌<◌, ◌≤◌, ◌^◌, ◌&&◌, ◌==◌, ℕ, List, true, min, max, length, take, drop, IfOk, IfSome, OnOk};
+ghost use Rattle.tk_disk.specs.Crash.{OnlyReads};
+ghost use Rattle.tk_disk.specs.Disk.{HasCause};
+ghost use Rattle.tk_model.specs.Orders.{same_bytes};
+ghost use Rattle.tk_block.specs.Number.{u16_in, u32_in, u64_in};
+ghost use Rattle.tk_block.specs.declared.head.StaticHead.{StaticHead};
+ghost use Rattle.tk_buckets.specs.Chain.{IsLinked, IsWhole};
+ghost use Rattle.tk_buckets.specs.Lookup.{IsBlockOf, body_in_block, read_of_block, read_of_chain, Finds};
+ghost use Rattle.tk_buckets.specs.Seen.{Sees, shown_block};
+
+use tk_block::{u16_at, u32_at, u64_at};
+use tk_disk::{Disk, DiskError};
+use tk_model::is_same;
+
+/// Head, link, numbers and the first eight letters of the key.
+const FRONT: usize = 48;
+/// Where the parts of a block stand.
+const EXTENT: usize = 4;
+
+const LINK: usize = 16;
+
+const KIND: usize = 24;
+
+const KEY_LEN: usize = 26;
+
+const VALUE_LEN: usize = 28;
+
+const KEY: usize = 40;
+
+/// A block that a look-up found. Kinds are those of `Body`.
+#[derive(Clone, Copy, Debug)]
+pub struct FoundBlock {
+    pub place: u64,
+    pub extent: u64,
+    pub kind: u8,
+    pub value_len: u32,
+}
+
+/// Fills the buffer with the bytes from a place on.
+fn read_bytes<D: Disk>(disk: &mut D, at: u64, into: &mut [u8]) -> Result<(), DiskError>
+    ensures bytes { IfSome (D.image disk.old) (λ f. at + length into.old ≤ length f
+        → OnOk result (into.new ≡ take (length into.old) (drop at f))) }
+    ensures cost { D.taken_count disk.new ≤ D.taken_count disk.old + length into.old }
+    ensures image { D.image disk.new ≡ D.image disk.old }
+    ensures more { D.taken_count disk.old ≤ D.taken_count disk.new }
+    ensures cause { HasCause (D.fault_count disk.old) (D.fault_count disk.new) result }
+    ensures still { OnlyReads D.may_leave D.moment D.left_since D.past D.left_with
+        disk.old disk.new }
+{
+    disk.read_at(at, into)?;
+    Ok(())
+}
+
+/// Reads bytes of a block at a place, those from one on up to the end, to where they stand in the buffer.
+fn read_part<D: Disk>(
+    disk: &mut D,
+    place: u64,
+    buffer: &mut [u8],
+    from: usize,
+    end: usize,
+) -> Result<(), DiskError>
+    requires from { from ≤ length buffer.old }
+    requires end { end ≤ length buffer.old }
+    ensures bytes { IfSome (D.image disk.old) (λ f. place + from < 2 ^ 64
+        → end ≤ length (drop place f)
+        → take from buffer.old ≡ take from (drop place f)
+        → IfOk result (λ _. take (max from end) buffer.new ≡ take (max from end) (drop place f))) }
+    ensures cost { D.taken_count disk.new ≤ D.taken_count disk.old + (end - from) }
+    ensures image { D.image disk.new ≡ D.image disk.old }
+    ensures more { D.taken_count disk.old ≤ D.taken_count disk.new }
+    ensures cause { HasCause (D.fault_count disk.old) (D.fault_count disk.new) result }
+    ensures still { OnlyReads D.may_leave D.moment D.left_since D.past D.left_with
+        disk.old disk.new }
+{
+    if end <= from {
+        return Ok(());
+    }
+    read_bytes(
+        disk,
+        place.saturating_add(from as u64),
+        &mut buffer[from..end],
+    )
+}
+
+/// The key of the block in the buffer has this one's length and first letters.
+fn may_have(buffer: &[u8], key: &[u8]) -> bool
+    requires { 48 ≤ length buffer.now }
+    ensures short { result ≡ true → length key.now < 65536 }
+    ensures value { result ≡ ((u16_in buffer.now 26 == length key.now)
+        && same_bytes (take (min (length key.now) 8) key.now)
+        (take (min (length key.now) 8) (drop 40 buffer.now))) }
+{
+    let first = key.len().min(FRONT - KEY);
+    u16_at(buffer, KEY_LEN) as usize == key.len()
+        && is_same(&key[..first], &buffer[KEY..KEY + first])
+}
+
+/// Whether the block at a place has the key. The buffer then has its bytes as far as its value ends, or the buffer does.
+fn has_key_at<D: Disk>(
+    disk: &mut D,
+    place: u64,
+    buffer: &mut [u8],
+    key: &[u8],
+) -> Result<bool, DiskError>
+    requires front { 48 ≤ length buffer.old }
+    requires key { min 65575 (40 + length key.now) ≤ length buffer.old }
+    ensures sees { (h : StaticHead) → IfSome (D.image disk.old) (λ f. IsWhole h f place
+        → length f < 2 ^ 64 → IfOk result (Sees f key.now place buffer.new)) }
+    ensures cost { (h : StaticHead) → IfSome (D.image disk.old) (λ f. IsWhole h f place
+        → length f < 2 ^ 64 → D.taken_count disk.new ≤ D.taken_count disk.old
+        + read_of_block key.now (length buffer.old) (body_in_block f place)) }
+    ensures most { D.taken_count disk.new ≤ D.taken_count disk.old + length buffer.old }
+    ensures short { IfOk result (λ has. has ≡ true → length key.now < 65536) }
+    ensures image { D.image disk.new ≡ D.image disk.old }
+    ensures more { D.taken_count disk.old ≤ D.taken_count disk.new }
+    ensures cause { HasCause (D.fault_count disk.old) (D.fault_count disk.new) result }
+    ensures still { OnlyReads D.may_leave D.moment D.left_since D.past D.left_with
+        disk.old disk.new }
+{
+    read_part(disk, place, buffer, 0, FRONT)?;
+    if !may_have(buffer, key) {
+        return Ok(false);
+    }
+    let end = KEY + key.len() + u32_at(buffer, VALUE_LEN) as usize;
+    let end = end.min(buffer.len());
+    read_part(disk, place, buffer, FRONT, end)?;
+    Ok(is_same(key, &buffer[KEY..KEY + key.len()]))
+}
+
+/// The block at a place, of which the buffer has the front.
+fn shown_block(place: u64, buffer: &[u8]) -> FoundBlock
+    requires { 48 ≤ length buffer.now }
+    ensures { result ≡ shown_block place buffer.now }
+{
+    FoundBlock {
+        place,
+        extent: u64_at(buffer, EXTENT),
+        kind: buffer[KIND],
+        value_len: u32_at(buffer, VALUE_LEN),
+    }
+}
+
+/// The first block with the key in the chain that begins at a place, in a file of this length. The buffer then has its
+/// bytes, as far as its value ends or there is room. It goes to no more blocks than the file can have.
+pub fn find_block<D: Disk>(
+    disk: &mut D,
+    first: u64,
+    len: u64,
+    buffer: &mut [u8],
+    key: &[u8],
+) -> Result<Option<FoundBlock>, DiskError>
+    requires len { IfSome (D.image disk.old) (λ f. length f ≤ len) }
+    requires front { 48 ≤ length buffer.old }
+    requires key { min 65575 (40 + length key.now) ≤ length buffer.old }
+    // the answer
+    ensures found { (h : StaticHead) (places : List ℕ) → IfSome (D.image disk.old) (λ f.
+        IsLinked h f first places → IfOk result (Finds f key.now places buffer.new)) }
+    ensures short { IfOk result (λ x. IfSome x (λ _. length key.now < 65536)) }
+    // what was read
+    ensures cost { (h : StaticHead) (places : List ℕ) → IfSome (D.image disk.old) (λ f.
+        IsLinked h f first places → D.taken_count disk.new
+        ≤ D.taken_count disk.old + read_of_chain f key.now (length buffer.old) places) }
+    ensures bound { D.taken_count disk.new ≤ D.taken_count disk.old + len / 48 * length buffer.old }
+    ensures more { D.taken_count disk.old ≤ D.taken_count disk.new }
+    // the disk
+    ensures image { D.image disk.new ≡ D.image disk.old }
+    ensures cause { HasCause (D.fault_count disk.old) (D.fault_count disk.new) result }
+    ensures still { OnlyReads D.may_leave D.moment D.left_since D.past D.left_with
+        disk.old disk.new }
+{
+    let mut place = first;
+    let mut steps = 0;
+    while place != 0 && steps < len / 48 {
+        if has_key_at(disk, place, buffer, key)? {
+            return Ok(Some(shown_block(place, buffer)));
+        }
+        place = u64_at(buffer, LINK);
+        steps += 1;
+    }
+    Ok(None)
+}
+
+/// Fills the answer with the front of the value of a block that was found, of which the buffer has as much as it can.
+pub fn fill_value<D: Disk>(
+    disk: &mut D,
+    block: &FoundBlock,
+    buffer: &[u8],
+    key: &[u8],
+    into: &mut [u8],
+) -> Result<(), DiskError>
+    requires key { 40 + length key.now ≤ length buffer.now }
+    ensures filled { IfSome (D.image disk.old) (λ f. length f < 2 ^ 64
+        → length into.old ≤ block.now.value_len → (x : IsBlockOf f key.now buffer.now block.now)
+        → IfOk result (λ _. into.new ≡ take (length into.old) x.body.value)) }
+    ensures cost { D.taken_count disk.new ≤ D.taken_count disk.old
+        + (length into.old - (length buffer.now - (40 + length key.now))) }
+    ensures image { D.image disk.new ≡ D.image disk.old }
+    ensures more { D.taken_count disk.old ≤ D.taken_count disk.new }
+    ensures cause { HasCause (D.fault_count disk.old) (D.fault_count disk.new) result }
+    ensures still { OnlyReads D.may_leave D.moment D.left_since D.past D.left_with
+        disk.old disk.new }
+{
+    let start = KEY + key.len();
+    let have = into.len().min(buffer.len() - start);
+    into[..have].copy_from_slice(&buffer[start..start + have]);
+    if have < into.len() {
+        let at = block.place.saturating_add(buffer.len() as u64);
+        read_bytes(disk, at, &mut into[have..])?;
+    }
+    Ok(())
+}

@@ -1,0 +1,8 @@
+use Rattle.std.proofs.Common.{sym, subst}
+use Rattle.tk_model.specs.Records.{Rising}
+use Rattle.tk_model.proofs.RecordLaws.{touched_rising}
+use Rattle.tk_model.proofs.plain.PlainMap.run_touch.Goals as goal
+
+pub invariant_of-self-2 : goal.invariant_of-self-2
+invariant_of-self-2 c =
+    subst (Rising c.self.inside.order) (sym c.in_ok-act_in.ensures.ok) (touched_rising _ _ _ _ c.self.invariant)

@@ -1,0 +1,6 @@
+pub mod Fresh
+pub mod Headers
+pub mod Held
+pub mod Knowing
+pub mod Sizes
+pub mod Steps
