@@ -38,6 +38,10 @@ pub record IsReady {D : Type 0} (log : GroupLog D) (changes : List Change) (link
   pub fit : AllFit changes
   pub text : log.ready ≡ group_text (record { number = number; changes = changes }) log.end links
 
+-- the text of a group that is ready, under a number
+abbrev pub ready_text : {D : Type 0} → GroupLog D → (number : ℕ) → List Change → (links : List ℕ) → List ℕ
+ready_text log number changes links = group_text (record { number = number; changes = changes }) log.end links
+
 -- the log has these groups
 pub record Stands {D : Type 0} (image : D → Option (List ℕ)) (log : GroupLog D) (groups : List Group) : Type 0 where
   pub end_is : log.end ≡ end_of (base_of log.head.p) (bodies_of groups)

@@ -12,7 +12,7 @@ ghost use Rattle.tk_block.specs.Blocks.{group_bodies};
 ghost use Rattle.tk_block.specs.Layout.{group_text, laid, end_of, links_of};
 ghost use Rattle.tk_append.specs.Log.{blocks_of};
 ghost use Rattle.tk_append.specs.contracts.log.GroupLog.{the_row};
-ghost use Rattle.tk_append.specs.LogParts.{log_disk, log_head, log_end, with_disk, with_closing, open_mark, IsReady, Stands};
+ghost use Rattle.tk_append.specs.LogParts.{log_disk, log_head, log_end, with_disk, with_closing, open_mark, ready_text, IsReady, Stands};
 ghost use Rattle.tk_append.specs.LogPasts.{Settles, Marks, Closes};
 
 use std::alloc::Global;
@@ -126,12 +126,11 @@ impl<D: Disk> GroupLog<D> {
         ensures time { (changes : List Change) (links : List ℕ) → IsReady self.old changes links
             → LeavesOnly D.moment D.left_since (log_disk self.old) (log_disk self.new) (λ c. (d : List ℕ) × D.may_leave (log_disk self.old) d × Torn (log_end self.old) (length (group_text (record { number = number; changes = changes }) (log_end self.old) links)) d c) }
         ensures past { (changes : List Change) (links : List ℕ) → IsReady self.old changes links
-            → Writes (log_end self.old) (group_text (record { number = number; changes = changes }) (log_end self.old) links)
+            → Writes (log_end self.old) (ready_text self.old number changes links)
             (D.past (log_disk self.old)) (D.past (log_disk self.new)) }
         ensures pasts { (changes : List Change) (links : List ℕ) → IsReady self.old changes links
             → PastOnly D.moment D.left_with (log_disk self.old) (log_disk self.new)
-            (Writes (log_end self.old) (group_text (record { number = number; changes = changes }) (log_end self.old) links)
-            (D.past (log_disk self.old))) }
+            (Writes (log_end self.old) (ready_text self.old number changes links) (D.past (log_disk self.old))) }
     {
         renumber(&mut self.ready, self.end, number);
         self.disk.write_at(self.end, self.ready.as_slice())?;
@@ -194,7 +193,8 @@ impl<D: Disk> GroupLog<D> {
         ensures crash { Follows (Torn 32 32) (D.may_leave (log_disk self.old)) (D.may_leave (log_disk self.new)) }
         ensures durable { OnOk result (IfSome (D.image (log_disk self.new)) (λ f. Only f (D.may_leave (log_disk self.new)))) }
         ensures time { LeavesOnly D.moment D.left_since (log_disk self.old) (log_disk self.new) (λ c. (d : List ℕ) × D.may_leave (log_disk self.old) d × Torn 32 32 d c) }
-        ensures past { Marks open_mark (D.image (log_disk self.old)) (D.past (log_disk self.old)) (D.past (log_disk self.new)) }
+        ensures past { Marks open_mark (D.image (log_disk self.old))
+            (D.past (log_disk self.old)) (D.past (log_disk self.new)) }
         ensures pasts { PastOnly D.moment D.left_with (log_disk self.old) (log_disk self.new)
             (Marks open_mark (D.image (log_disk self.old)) (D.past (log_disk self.old))) }
         ensures settled { OnOk result (IfSome (D.image (log_disk self.new)) (λ f.
@@ -223,9 +223,11 @@ impl<D: Disk> GroupLog<D> {
         ensures durable { OnOk result (IfSome (D.image (log_disk self.new)) (λ f. Only f (D.may_leave (log_disk self.new)))) }
         ensures time { LeavesOnly D.moment D.left_since (log_disk self.old) (log_disk self.new) (λ c. (d : List ℕ) × D.may_leave (log_disk self.old) d × Torn 32 32 d c) }
         ensures behind { IfSome (D.image (log_disk self.old)) (λ f. LeavesOnly D.moment D.left_since (log_disk self.old) (log_disk self.new) (λ c. D.may_leave (log_disk self.old) c ⊎ Torn 32 32 f c)) }
-        ensures past { Closes (record { size = log_end self.old; count = count; next = next }) (D.image (log_disk self.old)) (D.past (log_disk self.old)) (D.past (log_disk self.new)) }
+        ensures past { Closes (record { size = log_end self.old; count = count; next = next })
+            (D.image (log_disk self.old)) (D.past (log_disk self.old)) (D.past (log_disk self.new)) }
         ensures pasts { PastOnly D.moment D.left_with (log_disk self.old) (log_disk self.new)
-            (Closes (record { size = log_end self.old; count = count; next = next }) (D.image (log_disk self.old)) (D.past (log_disk self.old))) }
+            (Closes (record { size = log_end self.old; count = count; next = next })
+            (D.image (log_disk self.old)) (D.past (log_disk self.old))) }
         ensures settled { OnOk result (IfSome (D.image (log_disk self.new)) (λ f.
             D.past (log_disk self.new) ≡ settled_on f)) }
     {

@@ -36,11 +36,14 @@ fn begin<D: Disk>(log: &mut GroupLog<D>, writable: bool) -> Result<(), DiskError
     ensures crash_reads { writable ≡ false → Within (D.may_leave (log_disk log.old)) (D.may_leave (log_disk log.new)) }
     ensures durable { writable ≡ true → OnOk result (IfSome (D.image (log_disk log.new)) (λ f. Only f (D.may_leave (log_disk log.new)))) }
     ensures time { LeavesOnly D.moment D.left_since (log_disk log.old) (log_disk log.new) (λ c. (d : List ℕ) × D.may_leave (log_disk log.old) d × Torn 32 32 d c) }
-    ensures past { Marks open_mark (D.image (log_disk log.old)) (D.past (log_disk log.old)) (D.past (log_disk log.new)) }
+    ensures past { Marks open_mark (D.image (log_disk log.old))
+        (D.past (log_disk log.old)) (D.past (log_disk log.new)) }
     ensures pasts { PastOnly D.moment D.left_with (log_disk log.old) (log_disk log.new)
         (Marks open_mark (D.image (log_disk log.old)) (D.past (log_disk log.old))) }
-    ensures settled { writable ≡ true → OnOk result (IfSome (D.image (log_disk log.new)) (λ f. D.past (log_disk log.new) ≡ settled_on f)) }
-    ensures still { writable ≡ false → OnlyReads D.may_leave D.moment D.left_since D.past D.left_with (log_disk log.old) (log_disk log.new) }
+    ensures settled { writable ≡ true → OnOk result (IfSome (D.image (log_disk log.new)) (λ f.
+        D.past (log_disk log.new) ≡ settled_on f)) }
+    ensures still { writable ≡ false → OnlyReads D.may_leave D.moment D.left_since D.past D.left_with
+        (log_disk log.old) (log_disk log.new) }
 {
     if writable { log.mark_open() } else { Ok(()) }
 }
@@ -76,10 +79,14 @@ pub fn open_log<D: Disk>(
     ensures back_time { IfErr result (λ u. LeavesOnly D.moment D.left_since disk u.disk (λ c. (d : List ℕ) × D.may_leave disk d × Torn 32 32 d c)) }
     ensures past { IfOk result (λ log. Marks open_mark (D.image disk) (D.past disk) (D.past (log_disk log))) }
     ensures back_past { IfErr result (λ u. Marks open_mark (D.image disk) (D.past disk) (D.past u.disk)) }
-    ensures pasts { IfOk result (λ log. PastOnly D.moment D.left_with disk (log_disk log) (Marks open_mark (D.image disk) (D.past disk))) }
-    ensures back_pasts { IfErr result (λ u. PastOnly D.moment D.left_with disk u.disk (Marks open_mark (D.image disk) (D.past disk))) }
-    ensures settled { writable ≡ true → IfOk result (λ log. IfSome (D.image (log_disk log)) (λ f. D.past (log_disk log) ≡ settled_on f)) }
-    ensures still { writable ≡ false → IfOk result (λ log. OnlyReads D.may_leave D.moment D.left_since D.past D.left_with disk (log_disk log)) }
+    ensures pasts { IfOk result (λ log. PastOnly D.moment D.left_with disk (log_disk log)
+        (Marks open_mark (D.image disk) (D.past disk))) }
+    ensures back_pasts { IfErr result (λ u. PastOnly D.moment D.left_with disk u.disk
+        (Marks open_mark (D.image disk) (D.past disk))) }
+    ensures settled { writable ≡ true → IfOk result (λ log. IfSome (D.image (log_disk log)) (λ f.
+        D.past (log_disk log) ≡ settled_on f)) }
+    ensures still { writable ≡ false → IfOk result (λ log.
+        OnlyReads D.may_leave D.moment D.left_since D.past D.left_with disk (log_disk log)) }
 {
     let read = match read_counted(alloc, disk, &[1, 3], writable, shard) {
         Ok(read) => read,

@@ -1,5 +1,5 @@
 -- The new file is the one to which the image is restored.
-use Rattle.std.proofs.Common.{◌≡◌, ◌⊎◌, ℕ, ◌<◌, ◌≤◌, ◌^◌, Bool, true, false, cond, eqb, List, [], ◌∷◌, ◌++◌, length, refl, sym, ◌∙◌, ap, subst, arith, inl, inr, append_assoc}
+use Rattle.std.proofs.Common.{◌≡◌, ◌⊎◌, ℕ, ◌^◌, Bool, true, false, cond, eqb, List, [], ◌∷◌, ◌++◌, length, refl, sym, ◌∙◌, ap, subst, arith, inl, inr, append_assoc}
 use Rattle.std.specs.Prelude.{map, nat_le, nat_lt, Option, Some, None, IfSome, IsSomeAnd}
 use Rattle.std.proofs.lemmas.Bool.Decides.{nat_tests}
 use Rattle.std.proofs.lemmas.List.{append-nil}
@@ -7,9 +7,8 @@ use Rattle.tk_model.specs.declared.record.Pair.{Pair}
 use Rattle.tk_model.specs.declared.record.Group.{Group}
 use Rattle.tk_model.specs.declared.record.Change.TheVariants.{Put}
 use Rattle.tk_model.specs.declared.record.Order.TheVariants.{Hash}
-use Rattle.tk_model.specs.declared.error.OpenError.{OpenError}
 use Rattle.tk_model.specs.declared.error.OpenError.TheVariants.{NotADatabase, BrokenAt}
-use Rattle.tk_model.specs.Records.{put, after, replay, Rising}
+use Rattle.tk_model.specs.Records.{after, replay, Rising}
 use Rattle.tk_model.proofs.RecordLaws.{replay_rising}
 use Rattle.tk_store.proofs.Filling.{put_next}
 use Rattle.tk_block.specs.Text.{static_at, base_of}
@@ -29,7 +28,7 @@ after_puts xs (p ∷ ys) rising =
     ∙ append_assoc xs (p ∷ []) ys
 
 -- one group of all leaves them
-pub together_leaves : (pairs : List Pair) → Rising Hash pairs → replay Hash (together pairs) [] ≡ pairs
+pub together_leaves : (pairs : List Pair) → Rising Hash pairs → replay Hash (together 0 pairs) [] ≡ pairs
 together_leaves [] rising = refl
 together_leaves (p ∷ ps) rising = after_puts [] (p ∷ ps) rising
 
@@ -49,8 +48,8 @@ no_updating h (inr three) = ap (λ (k : ℕ). eqb k 2) three
 pub kind_of : (h : StaticHead) (f : List ℕ) → static_at f ≡ Some h → IsAppending f → (h.kind ≡ 1) ⊎ (h.kind ≡ 3)
 kind_of h f is appending = subst (λ (o : Option StaticHead). IfSome o (λ h. (h.kind ≡ 1) ⊎ (h.kind ≡ 3))) is appending
 
-in_one : (h : StaticHead) (f : List ℕ) (pairs : List Pair) → static_at f ≡ Some h → IsAppending f → fresh_groups h.kind pairs ≡ together pairs
-in_one h f pairs is appending = ap (λ (b : Bool). cond b (apart pairs) (together pairs)) (no_updating h (kind_of h f is appending))
+in_one : (h : StaticHead) (f : List ℕ) (pairs : List Pair) → static_at f ≡ Some h → IsAppending f → fresh_groups h.kind 0 pairs ≡ together 0 pairs
+in_one h f pairs is appending = ap (λ (b : Bool). cond b (apart 0 pairs) (together 0 pairs)) (no_updating h (kind_of h f is appending))
 
 -- ---- what is refused
 
@@ -59,9 +58,9 @@ unfolding refusal
 refused_headless None found none is = tt
 refused_headless (Some f) found none is = ap (refused_by f) (sym is ∙ none)
 
-size_same : (h : StaticHead) (f : List ℕ) (pairs : List Pair) → static_at f ≡ Some h → IsAppending f → pairs ≡ restored_records f → fresh_size (restored_head h) pairs ≡ restored_size h f
+size_same : (h : StaticHead) (f : List ℕ) (pairs : List Pair) → static_at f ≡ Some h → IsAppending f → pairs ≡ restored_records f → fresh_size (restored_head h) 0 pairs ≡ restored_size h f
 size_same h f pairs is appending records =
-    ap (λ (gs : List Group). end_of (base_of h.p) (bodies_of gs)) (in_one h f pairs is appending ∙ ap together records)
+    ap (λ (gs : List Group). end_of (base_of h.p) (bodies_of gs)) (in_one h f pairs is appending ∙ ap (together 0) records)
 
 refused_as : (t : Bool) (h : StaticHead) (f : List ℕ) → static_at f ≡ Some h → nat_lt (2 ^ 40) (restored_size h f) ≡ t → refusal f ≡ cond t (Some (BrokenAt 10)) None
 unfolding refusal
@@ -73,25 +72,25 @@ lt_by false n m is = grind (arith, nat_tests)
 
 -- by whether there is room
 pub refused_by_room : (image : Option (List ℕ)) (found : Option StaticHead) (h : StaticHead) (pairs : List Pair) (t : Bool) → found ≡ Some h → IfSome image (λ f. found ≡ static_at f) → IfSome image IsAppending
-    → IfSome image (λ f. pairs ≡ replay Hash (groups_in h f) []) → nat_le (fresh_size (restored_head h) pairs) (2 ^ 40) ≡ t → IfSome image (λ f. refusal f ≡ cond (cond t false true) (Some (BrokenAt 10)) None)
+    → IfSome image (λ f. pairs ≡ replay Hash (groups_in h f) []) → nat_le (fresh_size (restored_head h) 0 pairs) (2 ^ 40) ≡ t → IfSome image (λ f. refusal f ≡ cond (cond t false true) (Some (BrokenAt 10)) None)
 refused_by_room None found h pairs t some is appending records room = tt
 refused_by_room (Some f) found h pairs t some is appending records room =
     let static : static_at f ≡ Some h = sym is ∙ some in
     refused_as (cond t false true) h f static
-    (ap (λ (n : ℕ). nat_lt (2 ^ 40) n) (sym (size_same h f pairs static appending (records ∙ records_are h f static))) ∙ lt_by t (fresh_size (restored_head h) pairs) (2 ^ 40) room)
+    (ap (λ (n : ℕ). nat_lt (2 ^ 40) n) (sym (size_same h f pairs static appending (records ∙ records_are h f static))) ∙ lt_by t (fresh_size (restored_head h) 0 pairs) (2 ^ 40) room)
 
 -- ---- what is written
 
-file_same : (h : StaticHead) (f : List ℕ) (pairs : List Pair) → static_at f ≡ Some h → IsAppending f → pairs ≡ restored_records f → fresh_text (restored_head h) pairs ≡ restored_file h f
+file_same : (h : StaticHead) (f : List ℕ) (pairs : List Pair) → static_at f ≡ Some h → IsAppending f → pairs ≡ restored_records f → fresh_text (restored_head h) 0 pairs ≡ restored_file h f
 file_same h f pairs is appending records =
     let new = restored_head h in
     let all = restored_records f in
-    ap (λ (gs : List Group). file_text new gs (length pairs) (fresh_next pairs)) (in_one h f pairs is appending)
-    ∙ ap (λ (l : List Pair). file_text new (together l) (length l) (fresh_next l)) records
-    ∙ ap (λ (l : List Pair). file_text new (together all) (length l) (fresh_next all)) (sym (together_leaves all (records_rising f)))
+    ap (λ (gs : List Group). file_text new gs (length pairs) (fresh_next 0 pairs)) (in_one h f pairs is appending)
+    ∙ ap (λ (l : List Pair). file_text new (together 0 l) (length l) (fresh_next 0 l)) records
+    ∙ ap (λ (l : List Pair). file_text new (together 0 all) (length l) (fresh_next 0 all)) (sym (together_leaves all (records_rising f)))
 
 pub restored_from : (image old new : Option (List ℕ)) (found : Option StaticHead) (h : StaticHead) (pairs : List Pair) (count : ℕ) → found ≡ Some h → IfSome image (λ f. found ≡ static_at f) → IfSome image IsAppending
-    → IfSome image (λ f. pairs ≡ replay Hash (groups_in h f) []) → IfSome old (λ _. new ≡ Some (fresh_text (restored_head h) pairs)) → count ≡ length pairs
+    → IfSome image (λ f. pairs ≡ replay Hash (groups_in h f) []) → IfSome old (λ _. new ≡ Some (fresh_text (restored_head h) 0 pairs)) → count ≡ length pairs
     → IfSome image (λ f. IfSome old (λ _. IsSomeAnd new (λ file. IsRestoredFrom f file count)))
 restored_from None old new found h pairs count some is appending records written counted = tt
 restored_from (Some f) None new found h pairs count some is appending records written counted = tt

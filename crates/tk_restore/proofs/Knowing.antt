@@ -1,6 +1,6 @@
 -- What a reading knows behind one block more.
-use Rattle.std.proofs.Common.{◌≡◌, ℕ, suc, ◌+◌, ◌-◌, ◌<◌, ◌≤◌, Bool, true, false, cond, List, [], ◌∷◌, ◌++◌, length, take, drop, refl, sym, ◌∙◌, ap, subst, arith, inl, inr}
-use Rattle.std.specs.Prelude.{◌==◌, Option, Some, None, option_map}
+use Rattle.std.proofs.Common.{◌≡◌, ℕ, ◌<◌, Bool, true, false, cond, List, [], ◌∷◌, ◌++◌, length, drop, refl, sym, ◌∙◌, ap, subst, arith}
+use Rattle.std.specs.Prelude.{◌==◌, Some, None, option_map}
 use Rattle.std.specs.Option.{is_some}
 use Rattle.std.proofs.lemmas.List.{append-nil, drop_all}
 use Rattle.tk_model.specs.declared.record.Change.{Change}
@@ -18,7 +18,7 @@ use Rattle.tk_append.specs.Walked.{as_open}
 use Rattle.tk_append.specs.Restored.{complete_groups, may_be_read}
 use Rattle.tk_append.specs.Reread.{left_over}
 use Rattle.tk_append.proofs.Restoring.{group_of, no_body_there}
-use Rattle.tk_append.proofs.Rereading.{ended, groups_more, left_more, opened_last, opened_first, opened_on}
+use Rattle.tk_append.proofs.Rereading.{groups_more, left_more, opened_last, opened_first, opened_on}
 use Rattle.tk_restore.specs.Readings.{Knows, NotRead}
 use Rattle.tk_restore.specs.declared.reading.Reading.{Reading}
 

@@ -4,3 +4,4 @@ pub mod Held
 pub mod Knowing
 pub mod Sizes
 pub mod Steps
+pub mod Whole

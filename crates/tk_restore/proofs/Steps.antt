@@ -1,10 +1,10 @@
 -- A block is read alike by the bytes of the window and by all that follow, and how the reading of a file goes on behind it.
-use Rattle.std.proofs.Common.{◌≡◌, ℕ, zero, suc, ◌+◌, ◌-◌, ◌<◌, ◌≤◌, ◌^◌, ◌⊎◌, min, Bool, true, false, cond, List, [], ◌∷◌, ◌++◌, length, take, drop, refl, sym, ◌∙◌, ap, subst, arith, inl, inr}
-use Rattle.std.specs.Prelude.{Option, Some, None, IfSome, nat_le, ◌==◌, ◌&&◌, not}
+use Rattle.std.proofs.Common.{◌≡◌, ℕ, zero, suc, ◌+◌, ◌-◌, ◌<◌, ◌≤◌, ◌^◌, ◌⊎◌, min, true, false, List, [], ◌++◌, length, drop, refl, sym, ◌∙◌, ap, subst, arith, inl, inr}
+use Rattle.std.specs.Prelude.{Option, Some, None, IfSome, nat_le}
 use Rattle.std.specs.Io.{StartsWith}
 use Rattle.std.proofs.lemmas.Bool.{cases_lt}
 use Rattle.std.proofs.lemmas.Bool.Decides.{nat_tests}
-use Rattle.std.proofs.lemmas.List.{append-nil, drop_all, length-append, length-drop, length-take, drop-drop}
+use Rattle.std.proofs.lemmas.List.{append-nil, drop_all, length-drop, length-take, drop-drop}
 use Rattle.tk_model.specs.declared.record.Order.TheVariants.{Hash}
 use Rattle.tk_model.specs.declared.record.Pair.{Pair}
 use Rattle.tk_model.specs.Records.{replay}
@@ -15,13 +15,13 @@ use Rattle.tk_block.specs.Blocks.{body_at, room_of}
 use Rattle.tk_block.specs.Grammar.{FitsBody}
 use Rattle.tk_block.specs.Layout.{Placed}
 use Rattle.tk_block.proofs.BodyGrammar.{bodies}
-use Rattle.tk_append.specs.Opening.{Walk, begin, walked, is_in_turn}
+use Rattle.tk_append.specs.Opening.{Walk, begin, walked}
 use Rattle.tk_append.specs.Restored.{may_be_read, read_on, read_blocks, complete_groups, groups_in}
 use Rattle.tk_model.specs.declared.error.OpenError.{OpenError}
 use Rattle.tk_model.specs.declared.error.OpenError.TheVariants.{BrokenAt}
 use Rattle.tk_append.specs.Read.{IsOutside}
 use Rattle.tk_append.specs.Walked.{Shows}
-use Rattle.tk_append.proofs.Windows.{cut, starts, shows_rest, shows_none}
+use Rattle.tk_append.proofs.Windows.{cut, shows_rest, shows_none}
 use Rattle.tk_append.proofs.BlockFronts.{body_more, body_front, head_more}
 use Rattle.tk_append.proofs.Restoring.{block_on, nothing_read}
 use Rattle.tk_append.proofs.Rereading.{none_read, refused, extent_some, value_small}

@@ -1,5 +1,5 @@
 -- What a reading of an image knows.
-use Rattle.std.specs.Prelude.{◌≡◌, ◌⊎◌, ℕ, ◌+◌, ◌-◌, ◌^◌, ◌<◌, ◌≤◌, min, Bool, true, false, List, [], length, drop, Option, Some, None, option_map, IfSome}
+use Rattle.std.specs.Prelude.{◌≡◌, ◌⊎◌, ℕ, ◌+◌, ◌^◌, ◌<◌, ◌≤◌, min, Bool, true, false, List, [], length, drop, Option, Some, option_map, IfSome}
 use Rattle.std.specs.Io.{StartsWith}
 use Rattle.tk_model.specs.declared.record.Order.TheVariants.{Hash}
 use Rattle.tk_model.specs.Records.{replay}

@@ -1,7 +1,6 @@
 -- To what the image that a crash left of a file of groups is restored.
 use Rattle.std.specs.Prelude.{◌≡◌, ◌⊎◌, ℕ, ◌^◌, ◌≤◌, nat_lt, Bool, List, [], ◌∷◌, length, Option, Some, None, IfSome, if◌then◌else◌}
 use Rattle.tk_model.specs.declared.record.Pair.{Pair}
-use Rattle.tk_model.specs.declared.record.Group.{Group}
 use Rattle.tk_model.specs.declared.record.ShardOf.{ShardOf}
 use Rattle.tk_model.specs.declared.record.Order.TheVariants.{Hash}
 use Rattle.tk_model.specs.declared.error.OpenError.{OpenError}
@@ -25,11 +24,11 @@ restored_head h = record { kind = h.kind; version = h.version; p = h.p; order = 
 
 -- the closed file of the image's records: one group of number 0 with all of them, where there are any
 abbrev pub restored_file : StaticHead → (image : List ℕ) → List ℕ
-restored_file h image = closed_text (restored_head h) (together (restored_records image)) (fresh_next (restored_records image))
+restored_file h image = closed_text (restored_head h) (together 0 (restored_records image)) (fresh_next 0 (restored_records image))
 
 -- its length
 abbrev pub restored_size : StaticHead → (image : List ℕ) → ℕ
-restored_size h image = end_of (base_of h.p) (bodies_of (together (restored_records image)))
+restored_size h image = end_of (base_of h.p) (bodies_of (together 0 (restored_records image)))
 
 -- the file is the one to which the image is restored, and has so many records
 pub record IsRestoredFrom (image file : List ℕ) (count : ℕ) : Type 0 where

@@ -29,6 +29,7 @@ fn make_all(records: &mut HashedRecords, changes: ChangeList) -> Result<(), NoMe
 {
     for change in changes.into_vec() {
         records.apply(change)?;
+        records.widen()?;
     }
     Ok(())
 }

@@ -22,7 +22,7 @@ const LIMIT: u64 = 1 << 40;
 fn has_room(head: &StaticHead, pairs: &[Pair]) -> bool
     requires p { head.now.p ≤ 24 }
     requires small { AllPairsSmall pairs.now }
-    ensures { result ≡ nat_le (fresh_size head.now pairs.now) (2 ^ 40) }
+    ensures { result ≡ nat_le (fresh_size head.now 0 pairs.now) (2 ^ 40) }
 {
     let mut size = base_of(head.p);
     for pair in pairs {
@@ -43,16 +43,16 @@ fn write_file<D: Disk>(
 ) -> Result<(), OpenError>
     requires head { is_static head.now ≡ true }
     requires small { AllPairsSmall pairs.now }
-    requires end { fresh_size head.now pairs.now ≤ 2 ^ 40 }
+    requires end { fresh_size head.now 0 pairs.now ≤ 2 ^ 40 }
     requires empty { IfSome (D.image disk.old) (λ f. f ≡ []) }
-    ensures written { OnOk result (IfSome (D.image disk.old) (λ _. D.image disk.new ≡ Some (fresh_text head.now pairs.now))) }
+    ensures written { OnOk result (IfSome (D.image disk.old) (λ _. D.image disk.new ≡ Some (fresh_text head.now 0 pairs.now))) }
     ensures durable { OnOk result (IfSome (D.image disk.new) (λ f. Only f (D.may_leave disk.new))) }
     ensures no_memory { result ≡ Err errors.NoMemory → D.image disk.new ≡ D.image disk.old }
     ensures outside { IfErr result IsOutside }
     ensures told { is_some (D.image disk.new) ≡ is_some (D.image disk.old) }
     ensures cause { HasOpenCause (D.fault_count disk.old) (D.fault_count disk.new) result }
 {
-    match write_fresh(alloc, disk, head, pairs) {
+    match write_fresh(alloc, disk, head, 0, pairs) {
         Ok(()) => Ok(()),
         Err(DiskError::Fault) => Err(OpenError::Fault),
         Err(DiskError::NoMemory) => match disk.cut(0) {
@@ -77,7 +77,7 @@ pub fn restore_appending<D: Disk>(alloc: Global, from: &mut D, to: &mut D) -> Re
     ensures no_memory { result ≡ Err errors.NoMemory → D.image to.new ≡ D.image to.old }
     // the disks
     ensures image { D.image from.new ≡ D.image from.old }
-    ensures still { OnlyReads D.may_leave D.moment D.left_since from.old from.new }
+    ensures still { OnlyReads D.may_leave D.moment D.left_since D.past D.left_with from.old from.new }
     ensures told { is_some (D.image to.new) ≡ is_some (D.image to.old) }
     ensures cause { HasEitherCause (D.fault_count from.old) (D.fault_count from.new) (D.fault_count to.old) (D.fault_count to.new) result }
 {

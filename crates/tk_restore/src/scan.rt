@@ -30,7 +30,7 @@ pub(crate) fn read_header<D: Disk>(disk: &mut D) -> Result<Option<StaticHead>, O
     ensures outside { IfErr result IsOutside }
     ensures image { D.image disk.new ≡ D.image disk.old }
     ensures cause { HasOpenCause (D.fault_count disk.old) (D.fault_count disk.new) result }
-    ensures still { OnlyReads D.may_leave D.moment D.left_since disk.old disk.new }
+    ensures still { OnlyReads D.may_leave D.moment D.left_since D.past D.left_with disk.old disk.new }
 {
     let mut front = [0; 32];
     match disk.read_at(0, &mut front) {
@@ -59,7 +59,7 @@ fn fill<D: Disk>(
     ensures outside { IfErr result IsOutside }
     ensures image { D.image disk.new ≡ D.image disk.old }
     ensures cause { HasOpenCause (D.fault_count disk.old) (D.fault_count disk.new) result }
-    ensures still { OnlyReads D.may_leave D.moment D.left_since disk.old disk.new }
+    ensures still { OnlyReads D.may_leave D.moment D.left_since D.past D.left_with disk.old disk.new }
 {
     match window.fill(disk, place, need, left) {
         Ok(()) => Ok(true),
@@ -84,7 +84,7 @@ fn hold_block<D: Disk>(
     ensures outside { IfErr result IsOutside }
     ensures image { D.image disk.new ≡ D.image disk.old }
     ensures cause { HasOpenCause (D.fault_count disk.old) (D.fault_count disk.new) result }
-    ensures still { OnlyReads D.may_leave D.moment D.left_since disk.old disk.new }
+    ensures still { OnlyReads D.may_leave D.moment D.left_since D.past D.left_with disk.old disk.new }
 {
     if !fill(disk, window, place, 24, left)? {
         return Ok(None);
@@ -116,7 +116,7 @@ fn step<D: Disk>(
     ensures outside { IfErr result IsOutside }
     ensures image { D.image disk.new ≡ D.image disk.old }
     ensures cause { HasOpenCause (D.fault_count disk.old) (D.fault_count disk.new) result }
-    ensures still { OnlyReads D.may_leave D.moment D.left_since disk.old disk.new }
+    ensures still { OnlyReads D.may_leave D.moment D.left_since D.past D.left_with disk.old disk.new }
 {
     let left = size - place;
     let Some(extent) = hold_block(disk, window, place, left)? else {
@@ -145,7 +145,7 @@ pub(crate) fn read_records<D: Disk>(
     ensures outside { IfErr result IsOutside }
     ensures image { D.image disk.new ≡ D.image disk.old }
     ensures cause { HasOpenCause (D.fault_count disk.old) (D.fault_count disk.new) result }
-    ensures still { OnlyReads D.may_leave D.moment D.left_since disk.old disk.new }
+    ensures still { OnlyReads D.may_leave D.moment D.left_since D.past D.left_with disk.old disk.new }
 {
     let size = length_of(disk)?;
     let mut reading = Reading::new(alloc)?;

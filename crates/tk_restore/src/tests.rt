@@ -1,3 +1,7 @@
+ghost use Rattle.std.specs.Prelude.{◌≡◌, [], IsTrue, IfOk};
+ghost use Rattle.tk_disk.specs.MemDisk.{mem_bytes};
+ghost use Rattle.tk_restore.specs.Restoration.{IsAppending};
+
 use super::*;
 use std::alloc::Global;
 use std::test::Fail;
@@ -51,8 +55,6 @@ fn changes_of(alloc: Global, number: u64) -> Result<ChangeList, NoMemory> {
 fn image(alloc: Global) -> Result<Bytes, NoMemory> {
     let mut text = Bytes::from_slice(alloc, &write_static(&HEAD))?;
     text.extend_zeros(40)?;
-    let mut links = LinkList::new(alloc);
-    links.push(8)?;
     for number in 1..=5 {
         let changes = changes_of(alloc, number)?;
         let mut links = LinkList::new(alloc);
@@ -65,7 +67,9 @@ fn image(alloc: Global) -> Result<Bytes, NoMemory> {
     Ok(text)
 }
 
-fn disk(alloc: Global, bytes: &[u8], fault: u64) -> Result<MemDisk, NoMemory> {
+fn disk(alloc: Global, bytes: &[u8], fault: u64) -> Result<MemDisk, NoMemory>
+    ensures { IfOk result (λ d. mem_bytes d ≡ bytes.now) }
+{
     let mut faults = FaultList::new(alloc);
     faults.push(fault)?;
     let bytes = Bytes::from_slice(alloc, bytes)?;
@@ -85,12 +89,25 @@ fn slowly(alloc: Global, head: &StaticHead, bytes: &[u8]) -> Result<MemDisk, Fai
         ..*head
     };
     let mut to = disk(alloc, b"", 1_000)?;
-    write_fresh(alloc, &mut to, &head, &records.into_pairs()?)?;
+    write_fresh(alloc, &mut to, &head, 0, &records.into_pairs()?)?;
     Ok(to)
+}
+
+/// The image has no header of an updating file.
+fn is_appending(bytes: &[u8]) -> bool
+    ensures { IsTrue result → IsAppending bytes.now }
+{
+    match read_static(bytes) {
+        Some(head) => head.kind == 1 || head.kind == 3,
+        None => true,
+    }
 }
 
 /// The program and the slow one make the same file, or there is no header.
 fn is_same(alloc: Global, bytes: &[u8]) -> Result<bool, Fail> {
+    if !is_appending(bytes) {
+        return Ok(true);
+    }
     let mut from = disk(alloc, bytes, 1_000)?;
     let mut to = disk(alloc, b"", 1_000)?;
     let restored = restore_appending(alloc, &mut from, &mut to);
@@ -104,19 +121,63 @@ fn is_same(alloc: Global, bytes: &[u8]) -> Result<bool, Fail> {
 #[test]
 fn all_groups(rt: HostRuntime) -> Result<(), Fail> {
     let alloc = rt.alloc();
-    let mut from = disk(alloc, image(alloc)?.as_slice(), 1_000)?;
+    let whole = image(alloc)?;
+    assert!(rt; is_appending(whole.as_slice()));
+    let mut from = disk(alloc, whole.as_slice(), 1_000)?;
     let mut to = disk(alloc, b"", 1_000)?;
     assert_eq!(rt; restore_appending(alloc, &mut from, &mut to), Ok(2));
     assert_eq!(rt; to.bytes().len(), 72 + 48 + 56);
     Ok(())
 }
 
+/// Each cut: with no header, an empty file, one in the midst of a group, in a block's padding, at a block's end.
 #[test]
 fn each_cut(rt: HostRuntime) -> Result<(), Fail> {
     let alloc = rt.alloc();
     let whole = image(alloc)?;
     for len in 0..=whole.len() {
         assert!(rt; is_same(alloc, &whole.as_slice()[..len])?, "at {len}");
+    }
+    Ok(())
+}
+
+#[test]
+fn each_changed_byte(rt: HostRuntime) -> Result<(), Fail> {
+    let alloc = rt.alloc();
+    let whole = image(alloc)?;
+    for at in 0..whole.len() {
+        let mut other = Bytes::from_slice(alloc, whole.as_slice())?;
+        other.write_at(at, &[whole.at(at) ^ 1]);
+        assert!(rt; is_same(alloc, other.as_slice())?, "at {at}");
+    }
+    Ok(())
+}
+
+/// Each call of the disk that is read fails in turn, and each of the new one.
+#[test]
+fn each_fault(rt: HostRuntime) -> Result<(), Fail> {
+    let alloc = rt.alloc();
+    let whole = image(alloc)?;
+    assert!(rt; is_appending(whole.as_slice()));
+    for call in 0..3 {
+        let mut from = disk(alloc, whole.as_slice(), call)?;
+        let mut to = disk(alloc, b"", 1_000)?;
+        assert_eq!(rt;
+            restore_appending(alloc, &mut from, &mut to),
+            Err(OpenError::Fault),
+            "at {call}"
+        );
+        assert!(rt; to.bytes().is_empty());
+    }
+    for call in 0..4 {
+        let mut from = disk(alloc, whole.as_slice(), 1_000)?;
+        let mut to = disk(alloc, b"", call)?;
+        assert_eq!(rt;
+            restore_appending(alloc, &mut from, &mut to),
+            Err(OpenError::Fault),
+            "at {call}"
+        );
+        assert!(rt; from.bytes() == whole.as_slice());
     }
     Ok(())
 }

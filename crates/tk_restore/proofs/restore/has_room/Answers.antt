@@ -1,4 +1,4 @@
-use Rattle.std.proofs.Common.{◌≡◌, ◌+◌, ◌≤◌, ◌^◌, arith, ap, length, drop, sym, ◌∙◌}
+use Rattle.std.proofs.Common.{◌≡◌, ◌+◌, arith, ap, length, drop, ◌∙◌}
 use Rattle.tk_block.specs.Blocks.{extent_for}
 use Rattle.tk_restore.proofs.Sizes.{too_long, sized, one_more, small_item, extent_bound}
 use Rattle.tk_restore.proofs.restore.has_room.Goals as goal

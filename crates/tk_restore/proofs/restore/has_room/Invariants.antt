@@ -6,6 +6,6 @@ use Rattle.tk_restore.proofs.restore.has_room.Given as goal
 
 abbrev pub invariant-loop-pair : goal.invariant-loop-pair
 invariant-loop-pair l = record {
-  rest : end_of l.size (fresh_bodies true (drop l.pair-index l.pairs)) ≡ end_of (base_of l.head.p) (fresh_bodies true l.pairs);
+  rest : end_of l.size (fresh_bodies 0 true (drop l.pair-index l.pairs)) ≡ end_of (base_of l.head.p) (fresh_bodies 0 true l.pairs);
   bound : l.size ≤ 2 ^ 40 + 2 ^ 26;
 }

@@ -17,7 +17,7 @@ returns-then-not-has_room-clause-exact g c =
     let head = c.in-Some.head in
     let pairs = c.in_ok-pairs.pairs in
     let records = subst (λ (o : Option (List ℕ)). IfSome o (λ f. pairs ≡ replay Hash (groups_in head f) [])) c.in_ok-head.ensures.image c.in_ok-pairs.ensures.records in
-    let room : nat_le (fresh_size (restored_head head) pairs) (2 ^ 40) ≡ false = ap (λ (l : List Pair). nat_le (fresh_size (restored_head head) l) (2 ^ 40)) (sym c.as_slice.ensures) ∙ sym c.has_room.ensures ∙ c.if-not-has_room.true in
+    let room : nat_le (fresh_size (restored_head head) 0 pairs) (2 ^ 40) ≡ false = ap (λ (l : List Pair). nat_le (fresh_size (restored_head head) 0 l) (2 ^ 40)) (sym c.as_slice.ensures) ∙ sym c.has_room.ensures ∙ c.if-not-has_room.true in
     refused_by_room (g.D.Disk.image c.args.from.now) c.in_ok-head.field-0 head pairs false c.in-Some.is c.in_ok-head.ensures.found c.requires.kind records room
 
 pub returns-clause-restored : goal.returns-clause-restored
@@ -32,5 +32,5 @@ returns-clause-exact g c =
     let head = c.in-Some.head in
     let pairs = c.in_ok-pairs.pairs in
     let records = subst (λ (o : Option (List ℕ)). IfSome o (λ f. pairs ≡ replay Hash (groups_in head f) [])) c.in_ok-head.ensures.image c.in_ok-pairs.ensures.records in
-    let room : nat_le (fresh_size (restored_head head) pairs) (2 ^ 40) ≡ true = ap (λ (l : List Pair). nat_le (fresh_size (restored_head head) l) (2 ^ 40)) (sym c.as_slice.ensures) ∙ sym c.has_room.ensures ∙ c.if-not-has_room.false in
+    let room : nat_le (fresh_size (restored_head head) 0 pairs) (2 ^ 40) ≡ true = ap (λ (l : List Pair). nat_le (fresh_size (restored_head head) 0 l) (2 ^ 40)) (sym c.as_slice.ensures) ∙ sym c.has_room.ensures ∙ c.if-not-has_room.false in
     refused_by_room (g.D.Disk.image c.args.from.now) c.in_ok-head.field-0 head pairs true c.in-Some.is c.in_ok-head.ensures.found c.requires.kind records room

@@ -1,4 +1,4 @@
-use Rattle.std.proofs.Common.{◌≡◌, true, List, ℕ, sym, ◌∙◌, ap, subst, length, arith}
+use Rattle.std.proofs.Common.{◌≡◌, true, List, ℕ, sym, ◌∙◌, ap, subst, arith}
 use Rattle.std.specs.Prelude.{Option}
 use Rattle.tk_block.specs.Text.{head_at}
 use Rattle.tk_disk.proofs.Moments.{reads_joined}
@@ -32,4 +32,4 @@ pub returns-clause-some : goal.returns-clause-some
 returns-clause-some g c = extent_valid c.in-Some.extent (c.in-Some.ensures.exact.found _ c.in-Some.extent (sym c.in-Some.ensures.value)).0
 
 pub returns-clause-still : goal.returns-clause-still
-returns-clause-still g c = reads_joined g.D.Disk.may_leave g.D.Disk.moment g.D.Disk.left_since g.met.D.Disk.counts_now c.args.disk.now c.fill.new.disk c.fill-2.new.disk c.fill.ensures.still c.fill-2.ensures.still
+returns-clause-still g c = reads_joined g.D.Disk.may_leave g.D.Disk.moment g.D.Disk.left_since g.D.Disk.past g.D.Disk.left_with g.met.D.Disk.counts_now g.met.D.Disk.counts_with c.args.disk.now c.fill.new.disk c.fill-2.new.disk c.fill.ensures.still c.fill-2.ensures.still

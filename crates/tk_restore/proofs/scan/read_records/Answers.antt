@@ -1,4 +1,4 @@
-use Rattle.std.proofs.Common.{◌≡◌, ◌∙◌, List, ℕ, subst}
+use Rattle.std.proofs.Common.{◌∙◌, List, ℕ, subst}
 use Rattle.std.specs.Prelude.{Option}
 use Rattle.tk_append.specs.Windows.{items}
 use Rattle.tk_disk.proofs.Moments.{reads_joined}
@@ -15,7 +15,7 @@ loop-place-init g c = record {
 }
 
 pub returns-in_err-place-clause-still : goal.returns-in_err-place-clause-still
-returns-in_err-place-clause-still g c = reads_joined g.D.Disk.may_leave g.D.Disk.moment g.D.Disk.left_since g.met.D.Disk.counts_now c.args.disk.now c.loop-place.disk c.step.new.disk c.loop-place.invariant.still c.step.ensures.still
+returns-in_err-place-clause-still g c = reads_joined g.D.Disk.may_leave g.D.Disk.moment g.D.Disk.left_since g.D.Disk.past g.D.Disk.left_with g.met.D.Disk.counts_now g.met.D.Disk.counts_with c.args.disk.now c.loop-place.disk c.step.new.disk c.loop-place.invariant.still c.step.ensures.still
 
 pub loop-place-preserved : goal.loop-place-preserved
 loop-place-preserved g c =
@@ -30,7 +30,7 @@ loop-place-preserved g c =
       scanned = scanned i.scanned;
       image = c.step.ensures.image ∙ i.image;
       count = c.in_ok-place.ensures.cause.kept ∙ i.count;
-      still = reads_joined g.D.Disk.may_leave g.D.Disk.moment g.D.Disk.left_since g.met.D.Disk.counts_now c.args.disk.now c.loop-place.disk c.step.new.disk i.still c.step.ensures.still;
+      still = reads_joined g.D.Disk.may_leave g.D.Disk.moment g.D.Disk.left_since g.D.Disk.past g.D.Disk.left_with g.met.D.Disk.counts_now g.met.D.Disk.counts_with c.args.disk.now c.loop-place.disk c.step.new.disk i.still c.step.ensures.still;
     }
 
 pub returns-clause-records : goal.returns-clause-records

@@ -9,7 +9,7 @@ invariant-loop-place g l = record {
   scanned : Scanned (g.D.Disk.image l.fn.disk) l.head l.size l.place (items l.window) l.reading;
   image : g.D.Disk.image l.disk ≡ g.D.Disk.image l.fn.disk;
   count : g.D.Disk.fault_count l.disk ≡ g.D.Disk.fault_count l.fn.disk;
-  still : OnlyReads g.D.Disk.may_leave g.D.Disk.moment g.D.Disk.left_since l.fn.disk l.disk;
+  still : OnlyReads g.D.Disk.may_leave g.D.Disk.moment g.D.Disk.left_since g.D.Disk.past g.D.Disk.left_with l.fn.disk l.disk;
 }
 
 abbrev pub decreases-loop-place : goal.decreases-loop-place

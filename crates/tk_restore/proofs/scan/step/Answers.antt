@@ -1,5 +1,5 @@
-use Rattle.std.proofs.Common.{◌≡◌, ◌-◌, ◌≤◌, Bool, true, false, List, ℕ, refl, ap, subst, length, ◌∙◌}
-use Rattle.std.specs.Prelude.{Option, Some, None, IfSome, min}
+use Rattle.std.proofs.Common.{◌-◌, ◌≤◌, Bool, List, ℕ, refl, ap, subst, length, ◌∙◌}
+use Rattle.std.specs.Prelude.{Option, IfSome, min}
 use Rattle.tk_append.specs.Opening.{Walk}
 use Rattle.tk_append.specs.Windows.{items}
 use Rattle.tk_restore.specs.Readings.{Knows, IsRead, NotRead, ReadOrNot}
