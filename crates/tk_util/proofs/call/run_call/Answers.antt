@@ -18,12 +18,12 @@ returns-clause-no_room g c =
 
 pub returns-clause-spared : goal.returns-clause-spared
 returns-clause-spared g c = λ may.
-    spared_at g.D.Disk.image g.D.Disk.may_leave g.D.Disk.past g.D.Disk.moment g.D.Disk.left_since g.D.Disk.left_with g.met.D.Disk.counts_now g.met.D.Disk.counts_with (g.D.Disk.image c.args.disk) c.in-Ok.store c.call_on-answer.new.store c.into_disk.result (g.D.Disk.may_leave c.args.disk)
+    spared_at g.D.Disk.image g.D.Disk.may_leave g.D.Disk.past g.D.Disk.moment g.D.Disk.left_since g.D.Disk.left_with g.met.D.Disk.counts_now (g.D.Disk.image c.args.disk) c.in-Ok.store c.call_on-answer.new.store c.into_disk.result (g.D.Disk.may_leave c.args.disk)
     c.in-Ok.ensures.opened (c.in-Ok.ensures.mode.0 ∙ may) c.in-Ok.ensures.told c.into_disk.ensures c.call_on-answer.ensures.told c.call_on-answer.ensures.nature c.call_on-answer.ensures.time c.call_on-answer.ensures.safe
 
 pub returns-in-Err-clause-spared : goal.returns-in-Err-clause-spared
 returns-in-Err-clause-spared g c = λ may.
-    spared_back g.D.Disk.image g.D.Disk.may_leave g.D.Disk.past g.D.Disk.moment g.D.Disk.left_since g.D.Disk.left_with g.met.D.Disk.counts_now g.met.D.Disk.counts_with (g.D.Disk.image c.args.disk) c.args.disk _ c.in-Err.ensures.back_time
+    spared_back g.D.Disk.image g.D.Disk.may_leave g.D.Disk.past g.D.Disk.moment g.D.Disk.left_since g.D.Disk.left_with g.met.D.Disk.counts_now (g.D.Disk.image c.args.disk) c.args.disk _ c.in-Err.ensures.back_time
 
 pub returns-clause-refused : goal.returns-clause-refused
 returns-clause-refused g c =
