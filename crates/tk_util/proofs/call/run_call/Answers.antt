@@ -1,7 +1,7 @@
 use Rattle.std.proofs.Common.{◌≡◌, Some, ◌∙◌}
 use Rattle.tk_util.specs.Calls.{RefusedAt}
 use Rattle.tk_hash.specs.Hash.{hash_disk}
-use Rattle.tk_util.proofs.CallSteps.{made_at, no_room_at, no_place}
+use Rattle.tk_util.proofs.CallSteps.{made_at, no_room_at, no_memory_at, no_place}
 use Rattle.tk_util.proofs.Crashing.{crash_opened, crash_unopened, still_opened}
 use Rattle.tk_util.proofs.Sparing.{spared_at, spared_back}
 use Rattle.tk_util.proofs.call.run_call.Goals as goal
@@ -15,6 +15,11 @@ pub returns-clause-no_room : goal.returns-clause-no_room
 returns-clause-no_room g c =
     no_room_at g.D.Disk.image g.D.Disk.may_leave g.D.Disk.past g.P.RecordProcessor.acts (g.D.Disk.image c.args.disk) c.in-Ok.store (hash_disk c.call_on-answer.new.store) c.into_disk.result c.args.writable c.args.key.now c.args.p.now c.call_on-answer.result
     c.in-Ok.ensures.exact c.in-Ok.ensures.opened c.in-Ok.ensures.told c.into_disk.ensures c.call_on-answer.ensures.no_room
+
+pub returns-clause-no_memory : goal.returns-clause-no_memory
+returns-clause-no_memory g c =
+    no_memory_at g.D.Disk.image g.D.Disk.may_leave g.D.Disk.past (g.D.Disk.image c.args.disk) c.in-Ok.store (hash_disk c.call_on-answer.new.store) c.into_disk.result c.call_on-answer.result
+    c.in-Ok.ensures.opened c.in-Ok.ensures.told c.into_disk.ensures c.call_on-answer.ensures.no_memory
 
 pub returns-clause-spared : goal.returns-clause-spared
 returns-clause-spared g c = λ may.
