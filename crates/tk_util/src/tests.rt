@@ -10,8 +10,8 @@ use tk_io::{MemSink, MemSource};
 use tk_model::{Bytes, FaultList, NoMemory, fnv64};
 use tk_status::Finish;
 
-/// The room that the disk of a first set needs: two writes and two synchronisations.
-const ROOM: u64 = 64 + 8304 + 64 + 64 + 64 + 64;
+/// The room that the disk of a first set needs: four writes and two synchronisations.
+const ROOM: u64 = (64 + 64) + (64 + 8240) + (64 + 32) + 64 + (64 + 32) + 64;
 
 pub(crate) fn words(alloc: Global, texts: &[&str]) -> Result<Vec<String>, AllocError> {
     let mut words = Vec::new(alloc);
@@ -260,7 +260,7 @@ fn folder_of_one(alloc: Global, faults: &[u64]) -> Result<MemFolder, NoMemory>
 fn each_failing_call_of_a_second_set(rt: HostRuntime) -> Result<(), Fail> {
     let alloc = rt.alloc();
     let set = words(alloc, &["set", "x.tkh", "b", "22"])?;
-    for call in 0..15 {
+    for call in 0..12 {
         let mut folder = folder_of_one(alloc, &[call])?;
         assert_eq!(rt;
             run_in(alloc, &set, &mut folder).0,
@@ -268,7 +268,7 @@ fn each_failing_call_of_a_second_set(rt: HostRuntime) -> Result<(), Fail> {
             "disk's call {call}"
         );
     }
-    let mut folder = folder_of_one(alloc, &[15])?;
+    let mut folder = folder_of_one(alloc, &[12])?;
     assert_eq!(rt; run_in(alloc, &set, &mut folder).0, Finish::with(0));
     Ok(())
 }
@@ -302,7 +302,7 @@ fn each_failing_call(rt: HostRuntime) -> Result<(), Fail> {
             "folder's call {call}"
         );
     }
-    for call in 0..5 {
+    for call in 0..7 {
         let mut folder = folder_of(alloc, b"", &[call])?;
         assert_eq!(rt;
             run_in(alloc, &set, &mut folder).0,
@@ -310,7 +310,7 @@ fn each_failing_call(rt: HostRuntime) -> Result<(), Fail> {
             "disk's call {call}"
         );
     }
-    let mut folder = folder_of(alloc, b"", &[5])?;
+    let mut folder = folder_of(alloc, b"", &[7])?;
     assert_eq!(rt; run_in(alloc, &set, &mut folder).0, Finish::with(0));
     Ok(())
 }
