@@ -76,8 +76,8 @@ fn each_crash_leaves_a_front(rt: HostRuntime) -> Result<(), Fail> {
 #[test]
 fn a_group_stands_before_its_heads(rt: HostRuntime) -> Result<(), Fail> {
     let alloc = rt.alloc();
-    // Six calls make the file, and then the group and its head are written: nothing is read.
-    let mut store = fresh(alloc, 0, 1 << 30, &[7])?;
+    // Eight calls make the file, and then the group and its head are written: nothing is read.
+    let mut store = fresh(alloc, 0, 1 << 30, &[9])?;
     let failed = set(alloc, &mut store, 0, b"a", b"1");
     assert_eq!(rt; store.into_disk().bytes().len(), 120);
     assert!(rt; failed.is_err());
