@@ -1,6 +1,6 @@
 -- The new file is the one to which the image is restored.
 use Rattle.std.proofs.Common.{◌≡◌, ◌⊎◌, ℕ, ◌^◌, Bool, true, false, cond, eqb, List, [], ◌∷◌, ◌++◌, length, refl, sym, ◌∙◌, ap, subst, arith, inl, inr, append_assoc}
-use Rattle.std.specs.Prelude.{map, nat_le, nat_lt, Option, Some, None, IfSome, IsSomeAnd}
+use Rattle.std.specs.Prelude.{map, nat_le, nat_lt, Option, Some, None, IfSome}
 use Rattle.std.proofs.lemmas.Bool.Decides.{nat_tests}
 use Rattle.std.proofs.lemmas.List.{append-nil}
 use Rattle.tk_model.specs.declared.record.Pair.{Pair}
@@ -16,7 +16,7 @@ use Rattle.tk_block.specs.Layout.{end_of, bodies_of, file_text}
 use Rattle.tk_block.specs.declared.head.StaticHead.{StaticHead}
 use Rattle.tk_append.specs.Fresh.{together, apart, fresh_groups, fresh_next, fresh_text, fresh_size}
 use Rattle.tk_append.specs.Restored.{groups_in, groups_by, restored_groups}
-use Rattle.tk_restore.specs.Restoration.{restored_records, restored_head, restored_file, restored_size, IsRestoredFrom, IsAppending, refused_by, refusal}
+use Rattle.tk_restore.specs.Restoration.{restored_records, restored_head, restored_file, restored_size, IsAppending, refused_by, refusal}
 
 -- ---- records that are set in their order
 

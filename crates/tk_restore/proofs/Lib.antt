@@ -3,6 +3,8 @@ pub mod Halves
 pub mod Headers
 pub mod Held
 pub mod Knowing
+pub mod Placing
 pub mod Sizes
+pub mod Settings
 pub mod Steps
 pub mod Whole

@@ -3,6 +3,7 @@
 
 mod law;
 mod reading;
+mod records;
 mod restore;
 mod scan;
 #[cfg(test)]

@@ -3,20 +3,17 @@ ghost use Rattle.std.specs.Prelude.{◌≡◌, OnOk};
 ghost use Rattle.tk_model.specs.declared.record.Order.TheVariants.{Hash};
 ghost use Rattle.tk_model.specs.Records.{after};
 
+use crate::records::Records;
 use std::alloc::Global;
 use std::mem;
 use tk_append::{OpenGroup, change_of, is_in_turn};
 use tk_block::{Block, body_at};
 use tk_model::{ChangeList, NoMemory, PairList};
-use tk_store::HashedRecords;
-
-/// So many buckets a reading begins with, as a power of 2.
-const FIRST_POWER: u8 = 10;
 
 /// The records that complete groups leave, and the changes of a group that is begun.
 #[derive(Drop)]
 pub(crate) struct Reading {
-    pub records: HashedRecords,
+    pub records: Records,
     begun: ChangeList,
     /// The number of the last complete group.
     before: Option<u64>,
@@ -24,12 +21,11 @@ pub(crate) struct Reading {
 }
 
 /// Makes changes in their order.
-fn make_all(records: &mut HashedRecords, changes: ChangeList) -> Result<(), NoMemory>
+fn make_all(records: &mut Records, changes: ChangeList) -> Result<(), NoMemory>
     ensures { OnOk result (records.new ≡ after Hash changes records.old) }
 {
     for change in changes.into_vec() {
         records.apply(change)?;
-        records.widen()?;
     }
     Ok(())
 }
@@ -46,9 +42,8 @@ impl Reading {
         ensures knows { IfOk result (λ r. Knows r begin) }
         ensures held { IfOk result IsHeld }
     {
-        let records = HashedRecords::new(alloc, FIRST_POWER)?;
         Ok(Reading {
-            records,
+            records: Records::new(alloc),
             begun: ChangeList::new(alloc),
             before: None,
             open_group: None,
@@ -77,7 +72,6 @@ impl Reading {
             let changes = mem::replace(&mut self.begun, ChangeList::new(alloc));
             make_all(&mut self.records, changes)?;
             self.records.apply(change)?;
-            self.records.widen()?;
             self.before = Some(number);
             self.open_group = None;
             return Ok(());

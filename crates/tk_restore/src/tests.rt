@@ -3,12 +3,13 @@ ghost use Rattle.tk_disk.specs.MemDisk.{mem_bytes};
 ghost use Rattle.tk_restore.specs.Restoration.{IsAppending};
 
 use super::*;
+use crate::records::Records;
 use std::alloc::Global;
 use std::test::Fail;
 use tk_append::restore_groups;
 use tk_block::read_static;
 use tk_disk::MemDisk;
-use tk_model::{Bytes, FaultList, NoMemory, OpenError, Pair, PairList};
+use tk_model::{Bytes, Change, FaultList, NoMemory, OpenError, Pair, PairList};
 use tk_store::HashedRecords;
 
 /// An open file of five groups: two sets, a remove and a set, a clear, two sets, a set of a key that is there. No link and
@@ -134,5 +135,33 @@ fn each_fault(rt: HostRuntime) -> Result<(), Fail> {
         );
         assert!(rt; from.bytes() == IMAGE);
     }
+    Ok(())
+}
+
+/// A set or a remove of a key that has one byte.
+fn change_of(alloc: Global, key: u8, sets: bool, value: u8) -> Result<Change, NoMemory> {
+    let key = Bytes::from_slice(alloc, &[key])?;
+    if !sets {
+        return Ok(Change::Drop(key));
+    }
+    let value = Bytes::from_slice(alloc, &[value])?;
+    Ok(Change::Put(Pair { key, value }))
+}
+
+/// Records that are settled now and then are those that are kept by bucket.
+#[test]
+fn settled_records(rt: HostRuntime) -> Result<(), Fail> {
+    let alloc = rt.alloc();
+    let mut records = Records::new(alloc);
+    let mut slow = HashedRecords::new(alloc, 0)?;
+    for i in 0..200u8 {
+        records.apply(change_of(alloc, i % 30, i % 7 > 1, i)?)?;
+        slow.apply(change_of(alloc, i % 30, i % 7 > 1, i)?)?;
+        if i % 50 == 0 {
+            records.settle()?;
+        }
+    }
+    let (records, slow) = (records.into_pairs()?, slow.into_pairs()?);
+    assert!(rt; are_alike(records.as_slice(), slow.as_slice()));
     Ok(())
 }

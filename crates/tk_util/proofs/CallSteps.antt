@@ -27,7 +27,7 @@ use Rattle.tk_append.specs.LogParts.{log_end}
 use Rattle.tk_append.specs.Opening.{first_fault}
 use Rattle.tk_hash.specs.declared.store.HashStore.{HashStore}
 use Rattle.tk_util.specs.declared.call.Stop.{Stop}
-use Rattle.tk_util.specs.declared.call.Stop.TheVariants.{Full, Refused, NoMemory}
+use Rattle.tk_util.specs.declared.call.Stop.TheVariants.{Full, NoMemory, Refused}
 use Rattle.tk_append.specs.Restored.{groups_in}
 use Rattle.tk_hash.specs.HashLaws.{hash_replays}
 use Rattle.tk_hash.specs.Hash.{HashStands, opening, groups_held, map_in, hash_disk, hash_head, hash_nature, hash_shown}
@@ -235,11 +235,9 @@ no_room_at {D = D} image may_leave past acts (Some f) s u v w key p answer accep
   full = subst (λ (x : D). NoRoomOn acts (hash_head s) opened.0 s.next key p (image x)) (sym same) (known (image (hash_disk s)) _ told (full opened.0 opened.1) is);
 }
 
--- want of memory leaves the file that was opened
-pub no_memory_at : {D : Type 0} (image : D → Option (List ℕ)) (may_leave : D → List ℕ → Type 0) (past : D → Past) (a : Option (List ℕ)) (s : HashStore D) (u v : D) (answer : Result Status Stop)
+pub memory_at : {D : Type 0} (image : D → Option (List ℕ)) (may_leave : D → List ℕ → Type 0) (past : D → Past) (a : Option (List ℕ)) (s : HashStore D) (u v : D) (answer : Result Status Stop)
     → Opened image may_leave past s a → is_some (image (hash_disk s)) ≡ is_some a → v ≡ u
     → ((groups : List Group) → HashStands image may_leave past s (opening groups) [] 0 → IfSome (image (hash_disk s)) (λ f. answer ≡ Err NoMemory → image u ≡ Some (closed_text (hash_head s) groups s.next)))
     → IfSome a (λ f. answer ≡ Err NoMemory → image v ≡ Some f)
-no_memory_at image may_leave past None s u v answer opened told same kept = tt
-no_memory_at image may_leave past (Some f) s u v answer opened told same kept = λ is.
-    ap image same ∙ known (image (hash_disk s)) _ told (kept opened.0 opened.1) is ∙ ap Some (sym opened.2)
+memory_at image may_leave past None s u v answer opened told same left = tt
+memory_at image may_leave past (Some f) s u v answer opened told same left = λ is. ap image same ∙ (known (image (hash_disk s)) _ told (left opened.0 opened.1) is ∙ ap Some (sym opened.2))

@@ -2,6 +2,7 @@ pub mod CallSteps
 pub mod Crashing
 pub mod Endings
 pub mod GetEndings
+pub mod Interrupting
 pub mod Names
 pub mod OnFile
 pub mod OnFolder

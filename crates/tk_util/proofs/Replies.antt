@@ -23,7 +23,7 @@ pick_short false a e = refl
 
 module _ {P : Type 0} (acts : P → List ℕ → Option (List ℕ) → Action) (turns : P → List ℕ → Option (List ℕ) → P) (reply : Option (List ℕ) → Reply) (key : List ℕ) (old : P)
     (agree : (was : Option (List ℕ)) → acts old key was ≡ (reply was).action) (fits : (was : Option (List ℕ)) → is_long (reply was).action ≡ false) where
-  changes_same : (groups : List Group) → call_changes acts old key (replay Hash groups []) ≡ reply_changes reply groups key
+  pub changes_same : (groups : List Group) → call_changes acts old key (replay Hash groups []) ≡ reply_changes reply groups key
   changes_same groups =
       ap (λ (a : Action). action_changes key (value_in groups key) a) (ap short (agree (value_in groups key)) ∙ pick_short (is_long (reply (value_in groups key)).action) (reply (value_in groups key)).action (fits (value_in groups key)))
 

@@ -3,6 +3,7 @@ pub mod Calls
 pub mod Counts
 pub mod Done
 pub mod Ends
+pub mod Interrupted
 pub mod Leaves
 pub mod Ran
 pub mod Restoring

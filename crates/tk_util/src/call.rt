@@ -6,6 +6,10 @@ ghost use Rattle.tk_model.specs.declared.record.Group.{Group};
 ghost use Rattle.tk_disk.specs.Crash.{Only};
 ghost use Rattle.tk_disk.specs.Disk.{Rose};
 ghost use Rattle.tk_util.specs.Counts.{HasCause};
+ghost use Rattle.tk_util.specs.Interrupted.{MayAdd, Interrupts};
+ghost use Rattle.tk_store.specs.OneRecord.{call_changes};
+ghost use Rattle.tk_model.specs.Records.{replay};
+ghost use Rattle.tk_model.specs.declared.record.Order.TheVariants.{Hash};
 ghost use Rattle.tk_append.specs.Log.{closed_text};
 ghost use Rattle.tk_store.specs.Store.{IsWhole, LeavesSafe};
 ghost use Rattle.tk_util.specs.declared.call.Stop.{Stop as Stopped};
@@ -127,7 +131,8 @@ fn call_on<D: Disk, P: RecordProcessor>(
         result ≡ Err Stop.NoMemory → D.image (hash_disk store.new) ≡ Some (closed_text (hash_head store.old) groups (hash_nature store.old).next)) }
     ensures taken { (place : ℕ) → result ≡ Err (Stop.Refused place) → ⊥ }
     ensures safe { (groups : List Group) → HashStands D.image D.may_leave D.past store.old (opening groups) [] 0 → IfSome (D.image (hash_disk store.old)) (λ _.
-        (since : List Group) × HashSafe D.image D.left_since D.left_with store.new (D.moment (hash_disk store.old)) (opening groups) since 0) }
+        (since : List Group) × MayAdd (hash_nature store.old).next (call_changes P.acts p.old key.now (replay Hash groups [])) since
+        × HashSafe D.image D.left_since D.left_with store.new (D.moment (hash_disk store.old)) (opening groups) since 0) }
     ensures crash { (hash_nature store.old).writable ≡ true → CrashDone result (D.may_leave (hash_disk store.old)) (D.may_leave (hash_disk store.new)) (D.image (hash_disk store.new)) }
     ensures reads { (hash_nature store.old).writable ≡ false → IsStill (D.image (hash_disk store.old)) (D.image (hash_disk store.new)) (D.may_leave (hash_disk store.old)) (D.may_leave (hash_disk store.new)) }
     ensures nature { hash_nature store.new ≡ hash_nature store.old }
@@ -169,6 +174,8 @@ pub(crate) fn run_call<D: Disk, P: RecordProcessor>(
     ensures no_memory { IfSome (D.image disk) (λ f. result.answer ≡ Err Stop.NoMemory → D.image result.disk ≡ Some f) }
     ensures spared { writable ≡ true → IfSome (D.image disk) (λ f. Spares f (D.may_leave disk) (D.may_leave result.disk)) }
     ensures crash { writable ≡ true → CrashDone result.answer (D.may_leave disk) (D.may_leave result.disk) (D.image result.disk) }
+    ensures crashes { writable ≡ true → IfSome (D.image disk) (λ f. Interrupts (λ groups. call_changes P.acts p.old key.now (replay Hash groups [])) f (D.moment disk) (D.moment result.disk)
+        (D.may_leave disk) (D.left_since disk) (D.left_since result.disk) (D.left_with result.disk)) }
     ensures reads { writable ≡ false → IsStill (D.image disk) (D.image result.disk) (D.may_leave disk) (D.may_leave result.disk) }
     ensures cause { HasCause Stop.Fault (D.fault_count disk) (D.fault_count result.disk) result.answer }
 {

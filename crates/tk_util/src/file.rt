@@ -6,6 +6,7 @@ ghost use Rattle.tk_util.specs.Asked.{file_said, IsWithinLimits};
 ghost use Rattle.tk_util.specs.Calls.{Spares};
 ghost use Rattle.tk_util.specs.Counts.{HasCause, HasExactCause, RoseIn, EndsByCounts};
 ghost use Rattle.tk_util.specs.Done.{CommandDone, CrashLeft, NotTaken, RanOnFile};
+ghost use Rattle.tk_util.specs.Interrupted.{InterruptsCommand};
 ghost use Rattle.tk_util.specs.Leaves.{LeavesToCrash, OthersWithin};
 ghost use Rattle.tk_util.specs.Ran.{Ran, Settled, RoseOf, IsRunStatus, IsEnd, file_of, writes};
 
@@ -63,6 +64,8 @@ fn call_command<D: Disk>(
     ensures done { IfSome (D.image disk) (λ f. CommandDone command.entry f (D.image result.disk) getter.new result.answer) }
     ensures spared { IfSome (D.image disk) (λ f. Spares f (D.may_leave disk) (D.may_leave result.disk)) }
     ensures crash { CrashLeft (writes (file_said command.entry)) result.answer (D.may_leave disk) (D.may_leave result.disk) (D.image result.disk) }
+    ensures crashes { IfSome (D.image disk) (λ f. InterruptsCommand (file_said command.entry) f (D.moment disk) (D.moment result.disk)
+        (D.may_leave disk) (D.left_since disk) (D.left_since result.disk) (D.left_with result.disk)) }
     ensures cause { HasCause Stop.Fault (D.fault_count disk) (D.fault_count result.disk) result.answer }
 {
     match command {
@@ -89,6 +92,9 @@ fn run_unprinted<F: Folder>(
         ⊎ RoseOf (file_said command.entry) (F.disk_faults folder.old) (F.disk_faults folder.new) }
     ensures crash { LeavesToCrash (writes (file_said command.entry)) (F.tells folder.old) (file_of (file_said command.entry)) (F.file folder.old (file_of (file_said command.entry))) (F.file folder.new (file_of (file_said command.entry)))
         (F.leaves folder.old) (F.leaves folder.new) result }
+    ensures crashes { F.tells folder.old ≡ true → InterruptsCommand (file_said command.entry) (or_empty (F.file folder.old (file_of (file_said command.entry))))
+        (F.moment_of folder.old (file_of (file_said command.entry))) (F.moment_of folder.new (file_of (file_said command.entry))) (F.leaves folder.old (file_of (file_said command.entry)))
+        (F.left_since folder.old (file_of (file_said command.entry))) (F.left_since folder.new (file_of (file_said command.entry))) (F.left_with folder.new (file_of (file_said command.entry))) }
     ensures counts { EndsByCounts (F.fault_count folder.old) (F.fault_count folder.new) (F.disk_faults folder.old) (F.disk_faults folder.new) result }
     ensures fields { IsEnd result }
     ensures status { IsRunStatus (file_said command.entry) result.status }
@@ -122,6 +128,9 @@ pub(crate) fn run_on_file<F: Folder, W: Sink>(
         ⊎ RoseOf (file_said command.entry) (F.disk_faults folder.old) (F.disk_faults folder.new) }
     ensures crash { LeavesToCrash (writes (file_said command.entry)) (F.tells folder.old) (file_of (file_said command.entry)) (F.file folder.old (file_of (file_said command.entry))) (F.file folder.new (file_of (file_said command.entry)))
         (F.leaves folder.old) (F.leaves folder.new) result }
+    ensures crashes { F.tells folder.old ≡ true → InterruptsCommand (file_said command.entry) (or_empty (F.file folder.old (file_of (file_said command.entry))))
+        (F.moment_of folder.old (file_of (file_said command.entry))) (F.moment_of folder.new (file_of (file_said command.entry))) (F.leaves folder.old (file_of (file_said command.entry)))
+        (F.left_since folder.old (file_of (file_said command.entry))) (F.left_since folder.new (file_of (file_said command.entry))) (F.left_with folder.new (file_of (file_said command.entry))) }
     ensures fields { IsEnd result }
     ensures status { IsRunStatus (file_said command.entry) result.status }
     ensures clean { result.status ≡ 0 → W.fault_count out.new ≡ W.fault_count out.old }

@@ -5,6 +5,8 @@ ghost use Rattle.tk_proc.specs.Replies.{remove_reply};
 ghost use Rattle.tk_util.specs.Calls.{Spares};
 ghost use Rattle.tk_util.specs.Counts.{HasCause};
 ghost use Rattle.tk_util.specs.Done.{CallDone, CrashDone, GetDone};
+ghost use Rattle.tk_util.specs.Interrupted.{Interrupts};
+ghost use Rattle.tk_util.specs.Ran.{reply_changes};
 
 use crate::call::{Called, Stop, run_call};
 use crate::end::with_status;
@@ -35,6 +37,8 @@ pub(crate) fn remove_from<D: Disk>(alloc: Global, disk: D, key: &[u8]) -> Called
     ensures call { IfSome (D.image disk) (λ f. CallDone true remove_reply key.now f (D.image result.disk) result.answer) }
     ensures spared { IfSome (D.image disk) (λ f. Spares f (D.may_leave disk) (D.may_leave result.disk)) }
     ensures crash { CrashDone result.answer (D.may_leave disk) (D.may_leave result.disk) (D.image result.disk) }
+    ensures crashes { IfSome (D.image disk) (λ f. Interrupts (λ groups. reply_changes remove_reply groups key.now) f (D.moment disk) (D.moment result.disk)
+        (D.may_leave disk) (D.left_since disk) (D.left_since result.disk) (D.left_with result.disk)) }
     ensures cause { HasCause Stop.Fault (D.fault_count disk) (D.fault_count result.disk) result.answer }
 {
     let mut remover = Remover::new();

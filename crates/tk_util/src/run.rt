@@ -3,6 +3,7 @@ ghost use Rattle.tk_disk.specs.Crash.{Within, Only};
 ghost use Rattle.tk_disk.specs.Disk.{Rose};
 ghost use Rattle.tk_disk.specs.Folder.{NoneOut, or_empty};
 ghost use Rattle.tk_util.specs.Calls.{Spares};
+ghost use Rattle.tk_util.specs.Interrupted.{InterruptsCommand};
 ghost use Rattle.tk_util.specs.Leaves.{OthersWithin};
 ghost use Rattle.tk_util.specs.Words.{Command, command_of, words_of};
 ghost use Rattle.tk_util.specs.Ran.{Ran, Settled, RoseOf, file_of, writes, IsRunStatus, IsEnd};
@@ -37,6 +38,9 @@ pub fn run_util<F: Folder, R: Source, W: Sink>(
         → Within (F.leaves folder.old (file_of c)) (F.leaves folder.new (file_of c)) }
     ensures durable { (c : Command) → command_of (words_of words.now) ≡ Some c → writes c ≡ true → (result.status ≡ 0) ⊎ (result.status ≡ 6) → F.tells folder.old ≡ true
         → IfSome (F.file folder.new (file_of c)) (λ f. Only f (F.leaves folder.new (file_of c))) }
+    ensures crashes { (c : Command) → command_of (words_of words.now) ≡ Some c → F.tells folder.old ≡ true
+        → InterruptsCommand c (or_empty (F.file folder.old (file_of c))) (F.moment_of folder.old (file_of c)) (F.moment_of folder.new (file_of c))
+        (F.leaves folder.old (file_of c)) (F.left_since folder.old (file_of c)) (F.left_since folder.new (file_of c)) (F.left_with folder.new (file_of c)) }
     ensures others { (c : Command) → command_of (words_of words.now) ≡ Some c → OthersWithin (file_of c) (F.leaves folder.old) (F.leaves folder.new) }
     ensures left { R.left source.new ≡ R.left source.old }
     ensures fields { IsEnd result }

@@ -1,11 +1,12 @@
 ghost use Rattle.std.specs.Prelude.{◌≡◌, ◌≢◌, ◌≤◌, ◌<◌, ◌^◌, [], ◌∷◌, length, true, false, IfOk, IfSome, Some, Err};
-ghost use Rattle.tk_disk.specs.Crash.{Within, Only};
+ghost use Rattle.tk_disk.specs.Crash.{Within, Only, OnlyReads};
 ghost use Rattle.tk_disk.specs.Disk.{HasFaultCause};
 ghost use Rattle.tk_proc.specs.Replies.{set_reply};
 ghost use Rattle.tk_util.specs.Calls.{Spares};
 ghost use Rattle.tk_util.specs.Counts.{HasCause};
 ghost use Rattle.tk_util.specs.Done.{CallDone, CrashDone, SetDone};
-ghost use Rattle.tk_util.specs.Ran.{set_text};
+ghost use Rattle.tk_util.specs.Interrupted.{Interrupts};
+ghost use Rattle.tk_util.specs.Ran.{reply_changes, set_text};
 
 use crate::call::{Called, Stop, run_call};
 use crate::end::with_status;
@@ -53,6 +54,7 @@ fn set_fresh<D: Disk>(
     ensures kept { IfSome (D.image disk.old) (λ f. f ≢ [] → D.image disk.new ≡ D.image disk.old) }
     ensures no_memory { result ≡ Err DiskError.NoMemory → D.image disk.new ≡ D.image disk.old }
     ensures left { IfSome (D.image disk.old) (λ f. f ≢ [] → Within (D.may_leave disk.old) (D.may_leave disk.new)) }
+    ensures looks { IfSome (D.image disk.old) (λ f. f ≢ [] → OnlyReads D.may_leave D.moment D.left_since D.past D.left_with disk.old disk.new) }
     ensures durable { IfOk result (λ b. b ≡ true → IfSome (D.image disk.new) (λ f. Only f (D.may_leave disk.new))) }
     ensures unwritten { IfOk result (λ b. b ≡ false → Within (D.may_leave disk.old) (D.may_leave disk.new)) }
     ensures cause { HasFaultCause (D.fault_count disk.old) (D.fault_count disk.new) result }
@@ -78,6 +80,8 @@ fn set_more<D: Disk>(alloc: Global, disk: D, key: &[u8], value: &[u8]) -> Called
     ensures call { IfSome (D.image disk) (λ f. CallDone true (set_reply value.now true) key.now f (D.image result.disk) result.answer) }
     ensures spared { IfSome (D.image disk) (λ f. Spares f (D.may_leave disk) (D.may_leave result.disk)) }
     ensures crash { CrashDone result.answer (D.may_leave disk) (D.may_leave result.disk) (D.image result.disk) }
+    ensures crashes { IfSome (D.image disk) (λ f. Interrupts (λ groups. reply_changes (set_reply value.now true) groups key.now) f (D.moment disk) (D.moment result.disk)
+        (D.may_leave disk) (D.left_since disk) (D.left_since result.disk) (D.left_with result.disk)) }
     ensures cause { HasCause Stop.Fault (D.fault_count disk) (D.fault_count result.disk) result.answer }
 {
     let Ok(value) = Bytes::from_slice(alloc, value) else {
@@ -99,6 +103,8 @@ pub(crate) fn set_on<D: Disk>(alloc: Global, mut disk: D, key: &[u8], value: &[u
     ensures call { IfSome (D.image disk) (λ f. SetDone key.now value.now f (D.image result.disk) result.answer) }
     ensures spared { IfSome (D.image disk) (λ f. Spares f (D.may_leave disk) (D.may_leave result.disk)) }
     ensures crash { CrashDone result.answer (D.may_leave disk) (D.may_leave result.disk) (D.image result.disk) }
+    ensures crashes { IfSome (D.image disk) (λ f. f ≢ [] → Interrupts (λ groups. reply_changes (set_reply value.now true) groups key.now) f (D.moment disk) (D.moment result.disk)
+        (D.may_leave disk) (D.left_since disk) (D.left_since result.disk) (D.left_with result.disk)) }
     ensures cause { HasCause Stop.Fault (D.fault_count disk) (D.fault_count result.disk) result.answer }
 {
     match set_fresh(alloc, &mut disk, key, value) {

@@ -7,5 +7,5 @@ use Rattle.tk_restore.proofs.reading.make_all.Goals as goal
 
 pub loop-change-preserved : goal.loop-change-preserved
 loop-change-preserved c =
-    c.in_ok-widen.ensures ∙ c.in_ok-apply.ensures.ok ∙ ap (λ (m : List Pair). after_one Hash c.in-Some.change m) c.loop-change.invariant
+    c.in_ok-apply.ensures ∙ ap (λ (m : List Pair). after_one Hash c.in-Some.change m) c.loop-change.invariant
     ∙ sym (after_append Hash c.loop-change.yielded (c.in-Some.change ∷ []) c.args.records.now)

@@ -1,5 +1,5 @@
 use Rattle.std.proofs.lemmas.Option.{IfSome_then}
-use Rattle.tk_restore.proofs.Halves.{outside_tells, outside_unrefused, refused_before}
+use Rattle.tk_restore.proofs.Halves.{outside_tells, outside_unrefused}
 use Rattle.tk_restore.proofs.restore.restore_appending.Goals as goal
 
 pub returns-clause-restored : goal.returns-clause-restored

@@ -3,7 +3,6 @@ use Rattle.std.proofs.lemmas.Option.{IfSome_then}
 use Rattle.tk_status.specs.declared.Status.{Status}
 use Rattle.tk_hash.specs.Hash.{opening, hash_disk}
 use Rattle.tk_util.proofs.CallSteps.{made_on, kept_on, no_room_on, said_of, full_tells, memory_tells, one_more}
-use Rattle.tk_model.specs.Entries.{group_of}
 use Rattle.tk_store.specs.OneRecord.{call_changes}
 use Rattle.tk_util.proofs.Sparing.{safe_made, safe_refused, safe_failed}
 use Rattle.tk_util.proofs.call.call_on.Goals as goal
@@ -29,35 +28,39 @@ returns-in_ok-end_call-in-Err-NoMemory-clause-no_memory g c = λ groups stands.
 
 pub returns-in_ok-end_call-in-Ok-clause-safe : goal.returns-in_ok-end_call-in-Ok-clause-safe
 returns-in_ok-end_call-in-Ok-clause-safe g c = λ groups stands.
-    safe_made g.D.Disk.image g.D.Disk.may_leave g.D.Disk.past g.D.Disk.moment g.D.Disk.left_since g.D.Disk.left_with g.met.D.Disk.only_now g.met.D.Disk.only_with g.met.D.Disk.since_with c.args.store.now groups stands c.run_on.new.store c.end_call.new.store
-    (λ m. group_of c.next_number-next.result (call_changes g.P.RecordProcessor.acts c.args.p.now c.args.key.now m)) c.in-Ok.ensures.since c.end_call.ensures.safe
+    safe_made g.D.Disk.image g.D.Disk.may_leave g.D.Disk.past g.D.Disk.moment g.D.Disk.left_since g.D.Disk.left_with g.met.D.Disk.only_now g.met.D.Disk.only_with g.met.D.Disk.since_with c.args.store.now groups stands
+    (call_changes g.P.RecordProcessor.acts c.args.p.now c.args.key.now) c.next_number-next.result c.next_number-next.ensures c.run_on.new.store c.end_call.new.store c.in-Ok.ensures.since c.end_call.ensures.safe
 
 pub returns-in_ok-end_call-in-Err-Full-clause-safe : goal.returns-in_ok-end_call-in-Err-Full-clause-safe
 returns-in_ok-end_call-in-Err-Full-clause-safe g c = λ groups stands.
-    safe_refused g.D.Disk.image g.D.Disk.may_leave g.D.Disk.past g.D.Disk.moment g.D.Disk.left_since g.D.Disk.left_with g.met.D.Disk.only_now g.met.D.Disk.only_with g.met.D.Disk.since_with c.args.store.now groups stands c.run_on.new.store c.end_call-in-Err-Full.new.store
+    safe_refused g.D.Disk.image g.D.Disk.may_leave g.D.Disk.past g.D.Disk.moment g.D.Disk.left_since g.D.Disk.left_with g.met.D.Disk.only_now g.met.D.Disk.only_with g.met.D.Disk.since_with c.args.store.now groups stands
+    (call_changes g.P.RecordProcessor.acts c.args.p.now c.args.key.now) c.next_number-next.result c.next_number-next.ensures c.run_on.new.store c.end_call-in-Err-Full.new.store
     (full_tells Status _ c.in-Err-Full.field-0 _ _ _ c.in-Err-Full.field-0-is c.in-Err-Full.ensures.refused).1 c.end_call-in-Err-Full.ensures.safe
 
 pub returns-in_ok-end_call-in-Err-NoMemory-clause-safe : goal.returns-in_ok-end_call-in-Err-NoMemory-clause-safe
 returns-in_ok-end_call-in-Err-NoMemory-clause-safe g c = λ groups stands.
-    safe_refused g.D.Disk.image g.D.Disk.may_leave g.D.Disk.past g.D.Disk.moment g.D.Disk.left_since g.D.Disk.left_with g.met.D.Disk.only_now g.met.D.Disk.only_with g.met.D.Disk.since_with c.args.store.now groups stands c.run_on.new.store c.end_call-in-Err-NoMemory.new.store
+    safe_refused g.D.Disk.image g.D.Disk.may_leave g.D.Disk.past g.D.Disk.moment g.D.Disk.left_since g.D.Disk.left_with g.met.D.Disk.only_now g.met.D.Disk.only_with g.met.D.Disk.since_with c.args.store.now groups stands
+    (call_changes g.P.RecordProcessor.acts c.args.p.now c.args.key.now) c.next_number-next.result c.next_number-next.ensures c.run_on.new.store c.end_call-in-Err-NoMemory.new.store
     (memory_tells Status _ c.in-Err-NoMemory.field-0 c.in-Err-NoMemory.field-0-is c.in-Err-NoMemory.ensures.refused).1 c.end_call-in-Err-NoMemory.ensures.safe
 
 pub returns-in_err-end_call-in-Ok-clause-safe : goal.returns-in_err-end_call-in-Ok-clause-safe
 returns-in_err-end_call-in-Ok-clause-safe g c = λ groups stands.
-    safe_made g.D.Disk.image g.D.Disk.may_leave g.D.Disk.past g.D.Disk.moment g.D.Disk.left_since g.D.Disk.left_with g.met.D.Disk.only_now g.met.D.Disk.only_with g.met.D.Disk.since_with c.args.store.now groups stands c.run_on.new.store c.end_call.new.store
-    (λ m. group_of c.next_number-next.result (call_changes g.P.RecordProcessor.acts c.args.p.now c.args.key.now m)) c.in-Ok.ensures.since c.end_call.ensures.safe
+    safe_made g.D.Disk.image g.D.Disk.may_leave g.D.Disk.past g.D.Disk.moment g.D.Disk.left_since g.D.Disk.left_with g.met.D.Disk.only_now g.met.D.Disk.only_with g.met.D.Disk.since_with c.args.store.now groups stands
+    (call_changes g.P.RecordProcessor.acts c.args.p.now c.args.key.now) c.next_number-next.result c.next_number-next.ensures c.run_on.new.store c.end_call.new.store c.in-Ok.ensures.since c.end_call.ensures.safe
 
 pub returns-in_err-end_call-in-Err-Full-clause-safe : goal.returns-in_err-end_call-in-Err-Full-clause-safe
 returns-in_err-end_call-in-Err-Full-clause-safe g c = λ groups stands.
-    safe_refused g.D.Disk.image g.D.Disk.may_leave g.D.Disk.past g.D.Disk.moment g.D.Disk.left_since g.D.Disk.left_with g.met.D.Disk.only_now g.met.D.Disk.only_with g.met.D.Disk.since_with c.args.store.now groups stands c.run_on.new.store c.end_call-in-Err-Full.new.store
+    safe_refused g.D.Disk.image g.D.Disk.may_leave g.D.Disk.past g.D.Disk.moment g.D.Disk.left_since g.D.Disk.left_with g.met.D.Disk.only_now g.met.D.Disk.only_with g.met.D.Disk.since_with c.args.store.now groups stands
+    (call_changes g.P.RecordProcessor.acts c.args.p.now c.args.key.now) c.next_number-next.result c.next_number-next.ensures c.run_on.new.store c.end_call-in-Err-Full.new.store
     (full_tells Status _ c.in-Err-Full.field-0 _ _ _ c.in-Err-Full.field-0-is c.in-Err-Full.ensures.refused).1 c.end_call-in-Err-Full.ensures.safe
 
 pub returns-in_err-end_call-in-Err-NoMemory-clause-safe : goal.returns-in_err-end_call-in-Err-NoMemory-clause-safe
 returns-in_err-end_call-in-Err-NoMemory-clause-safe g c = λ groups stands.
-    safe_refused g.D.Disk.image g.D.Disk.may_leave g.D.Disk.past g.D.Disk.moment g.D.Disk.left_since g.D.Disk.left_with g.met.D.Disk.only_now g.met.D.Disk.only_with g.met.D.Disk.since_with c.args.store.now groups stands c.run_on.new.store c.end_call-in-Err-NoMemory.new.store
+    safe_refused g.D.Disk.image g.D.Disk.may_leave g.D.Disk.past g.D.Disk.moment g.D.Disk.left_since g.D.Disk.left_with g.met.D.Disk.only_now g.met.D.Disk.only_with g.met.D.Disk.since_with c.args.store.now groups stands
+    (call_changes g.P.RecordProcessor.acts c.args.p.now c.args.key.now) c.next_number-next.result c.next_number-next.ensures c.run_on.new.store c.end_call-in-Err-NoMemory.new.store
     (memory_tells Status _ c.in-Err-NoMemory.field-0 c.in-Err-NoMemory.field-0-is c.in-Err-NoMemory.ensures.refused).1 c.end_call-in-Err-NoMemory.ensures.safe
 
 pub returns-in-Err-Fault-clause-safe : goal.returns-in-Err-Fault-clause-safe
 returns-in-Err-Fault-clause-safe g c = λ groups stands.
-    safe_failed g.D.Disk.image g.D.Disk.may_leave g.D.Disk.past g.D.Disk.moment g.D.Disk.left_since g.D.Disk.left_with g.met.D.Disk.only_now g.met.D.Disk.only_with g.met.D.Disk.since_with c.args.store.now groups stands c.run_on.new.store
-    (λ m. group_of c.next_number-next.result (call_changes g.P.RecordProcessor.acts c.args.p.now c.args.key.now m)) c.run_on.ensures.safe
+    safe_failed g.D.Disk.image g.D.Disk.may_leave g.D.Disk.past g.D.Disk.moment g.D.Disk.left_since g.D.Disk.left_with g.met.D.Disk.only_now g.met.D.Disk.only_with g.met.D.Disk.since_with c.args.store.now groups stands
+    (call_changes g.P.RecordProcessor.acts c.args.p.now c.args.key.now) c.next_number-next.result c.next_number-next.ensures c.run_on.new.store c.run_on.ensures.safe

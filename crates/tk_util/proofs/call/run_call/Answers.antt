@@ -1,8 +1,10 @@
 use Rattle.std.proofs.Common.{◌≡◌, Some, ◌∙◌}
+use Rattle.tk_store.specs.OneRecord.{call_changes}
 use Rattle.tk_util.specs.Calls.{RefusedAt}
 use Rattle.tk_hash.specs.Hash.{hash_disk}
-use Rattle.tk_util.proofs.CallSteps.{made_at, no_room_at, no_memory_at, no_place}
+use Rattle.tk_util.proofs.CallSteps.{made_at, no_room_at, memory_at, no_place}
 use Rattle.tk_util.proofs.Crashing.{crash_opened, crash_unopened, still_opened}
+use Rattle.tk_util.proofs.Interrupting.{interrupted_at, unopened_at}
 use Rattle.tk_util.proofs.Sparing.{spared_at, spared_back}
 use Rattle.tk_util.proofs.call.run_call.Goals as goal
 
@@ -16,15 +18,11 @@ returns-clause-no_room g c =
     no_room_at g.D.Disk.image g.D.Disk.may_leave g.D.Disk.past g.P.RecordProcessor.acts (g.D.Disk.image c.args.disk) c.in-Ok.store (hash_disk c.call_on-answer.new.store) c.into_disk.result c.args.writable c.args.key.now c.args.p.now c.call_on-answer.result
     c.in-Ok.ensures.exact c.in-Ok.ensures.opened c.in-Ok.ensures.told c.into_disk.ensures c.call_on-answer.ensures.no_room
 
-pub returns-clause-no_memory : goal.returns-clause-no_memory
-returns-clause-no_memory g c =
-    no_memory_at g.D.Disk.image g.D.Disk.may_leave g.D.Disk.past (g.D.Disk.image c.args.disk) c.in-Ok.store (hash_disk c.call_on-answer.new.store) c.into_disk.result c.call_on-answer.result
-    c.in-Ok.ensures.opened c.in-Ok.ensures.told c.into_disk.ensures c.call_on-answer.ensures.no_memory
-
 pub returns-clause-spared : goal.returns-clause-spared
 returns-clause-spared g c = λ may.
     spared_at g.D.Disk.image g.D.Disk.may_leave g.D.Disk.past g.D.Disk.moment g.D.Disk.left_since g.D.Disk.left_with g.met.D.Disk.counts_now (g.D.Disk.image c.args.disk) c.in-Ok.store c.call_on-answer.new.store c.into_disk.result (g.D.Disk.may_leave c.args.disk)
-    c.in-Ok.ensures.opened (c.in-Ok.ensures.mode.0 ∙ may) c.in-Ok.ensures.told c.into_disk.ensures c.call_on-answer.ensures.told c.call_on-answer.ensures.nature c.call_on-answer.ensures.time c.call_on-answer.ensures.safe
+    c.in-Ok.ensures.opened (c.in-Ok.ensures.mode.0 ∙ may) c.in-Ok.ensures.told c.into_disk.ensures c.call_on-answer.ensures.told c.call_on-answer.ensures.nature c.call_on-answer.ensures.time
+    (call_changes g.P.RecordProcessor.acts c.args.p.now c.args.key.now) c.call_on-answer.ensures.safe
 
 pub returns-in-Err-clause-spared : goal.returns-in-Err-clause-spared
 returns-in-Err-clause-spared g c = λ may.
@@ -49,3 +47,18 @@ returns-clause-reads g c = λ reads.
 
 pub returns-in-Err-clause-reads : goal.returns-in-Err-clause-reads
 returns-in-Err-clause-reads g c = λ reads. record { same = c.in-Err.ensures.back_reads reads; crash = (c.in-Err.ensures.back_reads_still reads).crash }
+
+pub returns-clause-no_memory : goal.returns-clause-no_memory
+returns-clause-no_memory g c =
+    memory_at g.D.Disk.image g.D.Disk.may_leave g.D.Disk.past (g.D.Disk.image c.args.disk) c.in-Ok.store (hash_disk c.call_on-answer.new.store) c.into_disk.result c.call_on-answer.result
+    c.in-Ok.ensures.opened c.in-Ok.ensures.told c.into_disk.ensures c.call_on-answer.ensures.no_memory
+
+pub returns-clause-crashes : goal.returns-clause-crashes
+returns-clause-crashes g c = λ may.
+    interrupted_at g.D.Disk.image g.D.Disk.may_leave g.D.Disk.past g.D.Disk.moment g.D.Disk.left_since g.D.Disk.left_with (g.D.Disk.image c.args.disk) c.args.disk c.in-Ok.store c.call_on-answer.new.store c.into_disk.result c.args.writable
+    (call_changes g.P.RecordProcessor.acts c.args.p.now c.args.key.now) c.in-Ok.ensures.exact c.in-Ok.ensures.opened c.in-Ok.ensures.mode.0 may c.in-Ok.ensures.told c.into_disk.ensures c.call_on-answer.ensures.told c.call_on-answer.ensures.nature
+    c.in-Ok.ensures.time.later c.call_on-answer.ensures.time c.call_on-answer.ensures.safe
+
+pub returns-in-Err-clause-crashes : goal.returns-in-Err-clause-crashes
+returns-in-Err-clause-crashes g c = λ may.
+    unopened_at g.D.Disk.image g.D.Disk.may_leave g.D.Disk.past g.D.Disk.moment g.D.Disk.left_since g.D.Disk.left_with (g.D.Disk.image c.args.disk) _ c.args.disk _ c.in-Err.ensures.back_time

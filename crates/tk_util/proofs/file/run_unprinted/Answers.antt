@@ -2,15 +2,17 @@ use Rattle.std.proofs.Common.{◌≡◌, ℕ, Bool, true, List, refl, sym, ◌�
 use Rattle.std.specs.Prelude.{Option, Some, IsSome, Result, Ok}
 use Rattle.tk_disk.specs.Crash.{Within}
 use Rattle.tk_disk.specs.Disk.{Rose}
-use Rattle.tk_disk.specs.Folder.{or_empty, SameBut}
+use Rattle.tk_disk.specs.Folder.{or_empty, SameBut, SameHistory}
 use Rattle.tk_disk.specs.declared.disk.DiskError.{DiskError}
 use Rattle.tk_status.specs.declared.finish.Finish.{Finish}
 use Rattle.tk_util.specs.Asked.{file_said}
 use Rattle.tk_util.specs.Ends.{call_end}
 use Rattle.tk_util.specs.Done.{NotTaken, RanOnFile}
+use Rattle.tk_util.specs.Interrupted.{InterruptsCommand}
 use Rattle.tk_util.specs.Leaves.{LeavesToCrash, OthersWithin}
 use Rattle.tk_util.specs.Ran.{IsClearEnd, creates, file_of, writes}
 use Rattle.tk_util.specs.World.{World}
+use Rattle.tk_util.proofs.Interrupting.{not_taken_through, taken_through}
 use Rattle.tk_util.proofs.Endings.{no_fault, rose_moved, two_names}
 use Rattle.tk_util.proofs.OnFile.{on_file_done, on_file_counted, clear_end, rose_of, file_ran, not_taken, not_taken_settled}
 use Rattle.tk_util.proofs.OnFolder.{leaves_through, crash_counted, fault_counted}
@@ -64,6 +66,15 @@ module _ (g : Given.Over) (c : goal.After-end_of-2 g) (left held : Option (List 
 same_name : (g : Given.Over) (c : goal.After-end_of-2 g) → c.file-2.result.now ≡ c.file.result.now
 same_name g c = c.file-2.ensures ∙ sym c.file.ensures
 
+-- and what is told of it then
+given_back : (g : Given.Over) (c : goal.After-end_of-2 g) → SameHistory (g.F.D.Disk.moment c.call_command-disk.result.disk) (g.F.Folder.moment_of c.give-given.new.self c.file.result.now)
+    (g.F.D.Disk.may_leave c.call_command-disk.result.disk) (g.F.Folder.leaves c.give-given.new.self c.file.result.now) (g.F.D.Disk.left_since c.call_command-disk.result.disk) (g.F.Folder.left_since c.give-given.new.self c.file.result.now)
+    (g.F.D.Disk.past c.call_command-disk.result.disk) (g.F.Folder.past_of c.give-given.new.self c.file.result.now) (g.F.D.Disk.left_with c.call_command-disk.result.disk) (g.F.Folder.left_with c.give-given.new.self c.file.result.now)
+given_back g c =
+    subst (λ (n : List ℕ). SameHistory (g.F.D.Disk.moment c.call_command-disk.result.disk) (g.F.Folder.moment_of c.give-given.new.self n)
+    (g.F.D.Disk.may_leave c.call_command-disk.result.disk) (g.F.Folder.leaves c.give-given.new.self n) (g.F.D.Disk.left_since c.call_command-disk.result.disk) (g.F.Folder.left_since c.give-given.new.self n)
+    (g.F.D.Disk.past c.call_command-disk.result.disk) (g.F.Folder.past_of c.give-given.new.self n) (g.F.D.Disk.left_with c.call_command-disk.result.disk) (g.F.Folder.left_with c.give-given.new.self n)) (same_name g c) c.give-given.ensures.crash
+
 pub returns-clause-ran : goal.returns-clause-ran
 returns-clause-ran g c = λ left held tells. made g c left held tells c.give-given.result c.end_of-2.result c.end_of-2.ensures
 
@@ -90,3 +101,16 @@ returns-clause-crash g c =
     c.take_disk.ensures.others_crash
     (subst (λ (n : List ℕ). OthersWithin n (g.F.Folder.leaves c.take_disk.new.folder) (g.F.Folder.leaves c.give-given.new.self)) (same_name g c) (λ m ne. (c.give-given.ensures.others_crash m ne).crash))
     c.end_of-2.ensures)
+
+pub returns-in-Err-clause-crashes : goal.returns-in-Err-clause-crashes
+returns-in-Err-clause-crashes g c = λ tells.
+    subst (λ (n : List ℕ). InterruptsCommand (file_said c.args.command) (or_empty (g.F.Folder.file c.args.folder.now n)) (g.F.Folder.moment_of c.args.folder.now n) (g.F.Folder.moment_of c.take_disk.new.folder n)
+    (g.F.Folder.leaves c.args.folder.now n) (g.F.Folder.left_since c.args.folder.now n) (g.F.Folder.left_since c.take_disk.new.folder n) (g.F.Folder.left_with c.take_disk.new.folder n)) c.file.ensures
+    (not_taken_through (file_said c.args.command) (or_empty (g.F.Folder.file c.args.folder.now c.file.result.now)) _ _ _ _ _ _ _ _ _ _ c.in-Err.ensures.err_crash)
+
+pub returns-clause-crashes : goal.returns-clause-crashes
+returns-clause-crashes g c = λ tells.
+    subst (λ (n : List ℕ). InterruptsCommand (file_said c.args.command) (or_empty (g.F.Folder.file c.args.folder.now n)) (g.F.Folder.moment_of c.args.folder.now n) (g.F.Folder.moment_of c.give-given.new.self n)
+    (g.F.Folder.leaves c.args.folder.now n) (g.F.Folder.left_since c.args.folder.now n) (g.F.Folder.left_since c.give-given.new.self n) (g.F.Folder.left_with c.give-given.new.self n)) c.file.ensures
+    (taken_through _ _ _ _ _ _ _ _ _ _ _ _ _ _ _ _ _ _ _ _ c.in-Ok.ensures.crash (given_back g c) (file_said c.args.command) (or_empty (g.F.Folder.file c.args.folder.now c.file.result.now)) (g.F.D.Disk.image c.in-Ok.disk) (c.in-Ok.ensures.image tells)
+    c.call_command-disk.ensures.crashes)

@@ -1,6 +1,7 @@
 use Rattle.std.proofs.Common.{refl, sym}
 use Rattle.tk_proc.specs.Replies.{remove_reply}
 use Rattle.tk_util.proofs.Crashing.{crash_with}
+use Rattle.tk_util.proofs.Interrupting.{reply_interrupted}
 use Rattle.tk_util.proofs.Ready.{remove_fits}
 use Rattle.tk_util.proofs.Replies.{called_done}
 use Rattle.tk_util.proofs.key.remove_from.Goals as goal
@@ -13,3 +14,6 @@ returns-clause-call g c =
 
 pub returns-clause-crash : goal.returns-clause-crash
 returns-clause-crash g c = crash_with _ _ _ _ _ _ (c.run_call-disk.ensures.crash refl) c.with_status-answer.ensures
+
+pub returns-clause-crashes : goal.returns-clause-crashes
+returns-clause-crashes g c = reply_interrupted (λ r k was. (remove_reply was).action) remove_reply c.args.key.now c.new-remover.result (λ was. refl) remove_fits _ _ _ _ _ _ _ (c.run_call-disk.ensures.crashes refl)

@@ -1,4 +1,5 @@
 use Rattle.tk_util.proofs.Crashing.{crash_behind}
+use Rattle.tk_util.proofs.Interrupting.{behind_at, looked_at}
 use Rattle.tk_util.proofs.SetEndings.{set_moved}
 use Rattle.tk_util.proofs.Sparing.{spares_left, spares_moved}
 use Rattle.tk_util.proofs.set.set_on.Goals as goal
@@ -20,3 +21,16 @@ returns-in-Err-NoMemory-clause-spared g c = spares_left _ _ _ c.set_fresh.ensure
 
 pub returns-in-Ok-false-clause-crash : goal.returns-in-Ok-false-clause-crash
 returns-in-Ok-false-clause-crash g c = crash_behind _ _ _ _ _ (λ place is. c.in-Ok-false.ensures.unwritten c.in-Ok-false.field-0-test) c.set_more.ensures.crash
+
+pub returns-in-Ok-false-clause-crashes : goal.returns-in-Ok-false-clause-crashes
+returns-in-Ok-false-clause-crashes g c =
+    behind_at g.D.Disk.image g.D.Disk.may_leave g.D.Disk.past g.D.Disk.moment g.D.Disk.left_since g.D.Disk.left_with (g.D.Disk.image c.args.disk) _ c.args.disk c.set_fresh.new.disk _ c.set_fresh.ensures.looks c.set_fresh.ensures.kept c.set_more.ensures.crashes
+
+pub returns-in-Ok-true-clause-crashes : goal.returns-in-Ok-true-clause-crashes
+returns-in-Ok-true-clause-crashes g c = looked_at g.D.Disk.image g.D.Disk.may_leave g.D.Disk.past g.D.Disk.moment g.D.Disk.left_since g.D.Disk.left_with (g.D.Disk.image c.args.disk) _ c.args.disk c.set_fresh.new.disk c.set_fresh.ensures.looks
+
+pub returns-in-Err-Fault-clause-crashes : goal.returns-in-Err-Fault-clause-crashes
+returns-in-Err-Fault-clause-crashes g c = looked_at g.D.Disk.image g.D.Disk.may_leave g.D.Disk.past g.D.Disk.moment g.D.Disk.left_since g.D.Disk.left_with (g.D.Disk.image c.args.disk) _ c.args.disk c.set_fresh.new.disk c.set_fresh.ensures.looks
+
+pub returns-in-Err-NoMemory-clause-crashes : goal.returns-in-Err-NoMemory-clause-crashes
+returns-in-Err-NoMemory-clause-crashes g c = looked_at g.D.Disk.image g.D.Disk.may_leave g.D.Disk.past g.D.Disk.moment g.D.Disk.left_since g.D.Disk.left_with (g.D.Disk.image c.args.disk) _ c.args.disk c.set_fresh.new.disk c.set_fresh.ensures.looks

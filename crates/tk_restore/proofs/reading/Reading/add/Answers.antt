@@ -12,8 +12,8 @@ use Rattle.tk_restore.proofs.reading.Reading.add.Goals as goal
 pub returns-then-block-clause-knows : goal.returns-then-block-clause-knows
 returns-then-block-clause-knows c w knows =
     let old = c.args.self.now in
-    let made : c.widen.new.self ≡ after_one Hash c.in_ok-change.change (after Hash old.begun old.records) =
-    c.in_ok-widen.ensures ∙ c.in_ok-apply.ensures.ok
+    let made : c.apply.new.self ≡ after_one Hash c.in_ok-change.change (after Hash old.begun old.records) =
+    c.in_ok-apply.ensures
     ∙ ap (λ (m : List Pair). after_one Hash c.in_ok-change.change m) (c.in_ok-make_all.ensures ∙ ap (λ (l : List Change). after Hash l old.records) c.replace-changes.ensures.value) in
     knows_ended old _ w _ _ knows c.if-block.true c.in_ok-change.ensures made (c.replace-changes.ensures.after ∙ c.new.ensures) refl refl
 
@@ -24,7 +24,7 @@ returns-then-block-clause-held c =
     let made : AllPairsSmall c.make_all.new.records = subst AllPairsSmall (sym c.in_ok-make_all.ensures) (after_small c.replace-changes.result old.records begun c.requires.held.records) in
     record {
       records =
-          subst AllPairsSmall (sym (c.in_ok-widen.ensures ∙ c.in_ok-apply.ensures.ok))
+          subst AllPairsSmall (sym (c.in_ok-apply.ensures))
           (one_small c.in_ok-change.change c.make_all.new.records (change_small (said c.args.block) c.in_ok-change.change c.in_ok-change.ensures c.requires.small) made);
       begun = subst AllSmall (sym (c.replace-changes.ensures.after ∙ c.new.ensures)) tt;
     }
