@@ -1,17 +1,19 @@
 -- What settings leave, and that their order tells only among those of one key.
-use Rattle.std.proofs.Common.{◌≡◌, ◌⊎◌, inl, inr, ℕ, Bool, true, false, cond, not, ◌&&◌, List, [], ◌∷◌, ◌++◌, refl, sym, ap, subst, ◌∙◌}
+use Rattle.std.proofs.Common.{◌≡◌, ◌⊎◌, inl, inr, ℕ, Bool, true, false, cond, List, [], ◌∷◌, ◌++◌, true≢false, refl, sym, ap, subst, ◌∙◌}
 use Rattle.std.specs.Prelude.{Option, Some, None}
 use Rattle.std.specs.List.{filter}
 use Rattle.std.specs.List.Sorted.{ties, IsStableBy}
-use Rattle.std.specs.Ordering.{is_lt, ordering_reverse}
+use Rattle.std.specs.Ordering.{is_lt, nat_cmp}
+use Rattle.std.proofs.lemmas.Cmp.{tied_itself, nat_cmp_total}
 use Rattle.std.specs.declared.cmp.Ordering.{Ordering}
-use Rattle.std.specs.declared.cmp.Ordering.TheVariants.{Less, Equal, Greater}
-use Rattle.tk_model.specs.Orders.{same_bytes, key_cmp}
+use Rattle.std.specs.declared.cmp.Ordering.TheVariants.{Equal}
+use Rattle.tk_model.specs.Hashes.{mix_of}
+use Rattle.tk_model.specs.Orders.{same_bytes}
 use Rattle.tk_model.specs.Records.{find, Rising}
 use Rattle.tk_model.specs.declared.record.Order.TheVariants.{Hash}
 use Rattle.tk_model.specs.declared.record.Pair.{Pair}
-use Rattle.tk_model.proofs.KeyOrders.{keys_apart, same_told, same_itself}
-use Rattle.tk_model.proofs.RecordLaws.{so_or_not, apart_less, apart_greater, flipped, put_rising, without_rising, find_put_same, find_put_other, find_without_same, find_without_other, same_records}
+use Rattle.tk_model.proofs.KeyOrders.{same_told}
+use Rattle.tk_model.proofs.RecordLaws.{so_or_not, put_rising, without_rising, find_put_same, find_put_other, find_without_same, find_without_other, same_records}
 use Rattle.tk_restore.specs.Settings.{Setting, set_by, set_one, set_all}
 
 pub set_more : (ss : List Setting) (s : Setting) (m : List Pair) → set_all (ss ++ s ∷ []) m ≡ set_one s (set_all ss m)
@@ -51,37 +53,35 @@ found_told k (s ∷ ss) m rising =
     found_told k ss (set_one s m) (by_rising s.key s.value m rising)
     ∙ ap (told k ss) (found_by k s.key s.value m rising (so_or_not (same_bytes k s.key)))
 
--- the order of settings
-abbrev pub goes_first : Setting → Setting → Bool
-goes_first s t = is_lt (key_cmp Hash s.key t.key)
-
-tied : (a b : List ℕ) (c : Ordering) → key_cmp Hash a b ≡ c → not (is_lt c) && not (is_lt (ordering_reverse c)) ≡ same_bytes a b
-tied a b Less e = sym (apart_less Hash a b e)
-tied a b Equal e = sym (subst (λ k. same_bytes a k ≡ true) (keys_apart Hash a b e) (same_itself a))
-tied a b Greater e = sym (apart_greater Hash a b e)
-
-tied_same : (s t : Setting) → ties goes_first s t ≡ same_bytes s.key t.key
-tied_same s t =
-    ap (λ c. not (is_lt (key_cmp Hash s.key t.key)) && not (is_lt c)) (flipped Hash s.key t.key (key_cmp Hash s.key t.key) refl)
-    ∙ tied s.key t.key (key_cmp Hash s.key t.key) refl
-
-told_kept : (s t : Setting) (ss : List Setting) (was : Option (List ℕ)) (b : Bool) → ties goes_first s t ≡ b → same_bytes s.key t.key ≡ b
-    → told s.key (filter (ties goes_first s) ss) (cond b t.value was) ≡ told s.key (filter (ties goes_first s) (t ∷ ss)) was
-told_kept s t ss was true e f = rw (e, told, f) refl
-told_kept s t ss was false e f = rw e refl
-
-told_filter : (s : Setting) (ss : List Setting) (was : Option (List ℕ)) → told s.key ss was ≡ told s.key (filter (ties goes_first s) ss) was
-told_filter s [] was = refl
-told_filter s (t ∷ ss) was =
-    told_filter s ss (cond (same_bytes s.key t.key) t.value was)
-    ∙ told_kept s t ss was (same_bytes s.key t.key) (tied_same s t) refl
-
 abbrev asks : List ℕ → Setting
 asks k = record { key = k; value = None }
+
+-- the order of settings
+abbrev pub goes_first : Setting → Setting → Bool
+goes_first s t = is_lt (nat_cmp (mix_of s.key) (mix_of t.key))
+
+itself : (j : List ℕ) (c : Ordering) → nat_cmp (mix_of j) (mix_of j) ≡ c → c ≡ Equal → ties goes_first (asks j) (asks j) ≡ true
+itself j c e f = rw (e, f) refl
+
+tied : (k : List ℕ) (t : Setting) → same_bytes k t.key ≡ true → ties goes_first (asks k) t ≡ true
+tied k t same = subst (λ j. ties goes_first (asks k) (asks j) ≡ true) (same_told k t.key same) (itself k (nat_cmp (mix_of k) (mix_of k)) refl (tied_itself nat_cmp_total (mix_of k)))
+
+told_kept : (k : List ℕ) (t : Setting) (ss : List Setting) (was : Option (List ℕ)) (b c : Bool) → same_bytes k t.key ≡ b → ties goes_first (asks k) t ≡ c
+    → (b ≡ true → c ≡ true) → told k (filter (ties goes_first (asks k)) ss) (cond b t.value was) ≡ told k (filter (ties goes_first (asks k)) (t ∷ ss)) was
+told_kept k t ss was true true f e keeps = rw (e, told, f) refl
+told_kept k t ss was true false f e keeps = absurd (true≢false (sym (keeps refl)))
+told_kept k t ss was false true f e keeps = rw (e, told, f) refl
+told_kept k t ss was false false f e keeps = rw e refl
+
+told_filter : (k : List ℕ) (ss : List Setting) (was : Option (List ℕ)) → told k ss was ≡ told k (filter (ties goes_first (asks k)) ss) was
+told_filter k [] was = refl
+told_filter k (t ∷ ss) was =
+    told_filter k ss (cond (same_bytes k t.key) t.value was)
+    ∙ told_kept k t ss was (same_bytes k t.key) (ties goes_first (asks k) t) refl refl (tied k t)
 
 -- settings of one key in the same order leave the same
 pub stable_same : (xs ys : List Setting) → IsStableBy goes_first xs ys → set_all ys [] ≡ set_all xs []
 stable_same xs ys stable = same_records Hash (set_all ys []) (set_all xs []) (all_rising ys [] tt) (all_rising xs [] tt) (λ k.
-    found_told k ys [] tt ∙ told_filter (asks k) ys None
+    found_told k ys [] tt ∙ told_filter k ys None
     ∙ ap (λ l. told k l None) (stable (asks k))
-    ∙ sym (told_filter (asks k) xs None) ∙ sym (found_told k xs [] tt))
+    ∙ sym (told_filter k xs None) ∙ sym (found_told k xs [] tt))

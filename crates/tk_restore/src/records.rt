@@ -1,7 +1,7 @@
 //! The records that changes leave, brought into hash order by sorts.
 ghost use Rattle.std.specs.Prelude.{◌≡◌, [], IfOk, OnOk, MatchResult};
 ghost use Rattle.tk_model.specs.declared.record.Order.TheVariants.{Hash};
-ghost use Rattle.tk_model.specs.Orders.{key_cmp};
+ghost use Rattle.tk_model.specs.Hashes.{mix_of};
 ghost use Rattle.tk_model.specs.Places.{GoesAt, GoesBefore};
 ghost use Rattle.tk_model.specs.Records.{after_one, Rising};
 ghost use Rattle.tk_restore.specs.Settings.{set_by, set_one, set_all, Stands};
@@ -46,18 +46,10 @@ impl HashedSetting {
         HashedSetting { hash, key, value }
     }
 
-    /// How the keys compare: by the hashes, and where they are the same by the bytes.
-    #[tactic(auto, using(tk_store::proofs::Hashing::by_less, tk_store::proofs::Hashing::by_greater))]
-    fn compare(&self, other: &HashedSetting) -> Ordering
-        ensures { result ≡ key_cmp Hash self.now.key other.now.key }
+    fn hash(&self) -> u64
+        ensures { result ≡ mix_of self.now.key }
     {
-        match self.hash.cmp(&other.hash) {
-            Ordering::Less => Ordering::Less,
-            Ordering::Greater => Ordering::Greater,
-            Ordering::Equal => {
-                compare_keys(&Order::Hash, self.key.as_slice(), other.key.as_slice())
-            }
-        }
+        self.hash
     }
 
     fn into_parts(self) -> (Bytes, Option<Bytes>)
@@ -68,11 +60,11 @@ impl HashedSetting {
     }
 }
 
-/// Brings settings into hash order. Those of one key stay in theirs.
+/// Brings settings into the order of their hashes. Those of one key stay in theirs.
 fn sort(settings: &mut Vec<HashedSetting>) -> Result<(), NoMemory>
     ensures { OnOk result (set_all settings.new.items [] ≡ set_all settings.old.items []) }
 {
-    settings.sort_by(|a, b| a.compare(b))?;
+    settings.sort_by_cached_key(|s| s.hash())?;
     Ok(())
 }
 

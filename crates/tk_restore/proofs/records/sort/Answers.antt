@@ -1,11 +1,10 @@
 use Rattle.std.proofs.Common.{rules}
-use Rattle.std.proofs.lemmas.List.Sorted.{ranks_by, answers_always}
-use Rattle.tk_model.specs.declared.record.Order.TheVariants.{Hash}
-use Rattle.tk_model.proofs.KeyOrders.{keys_total}
+use Rattle.std.proofs.lemmas.Fn.{always_returns_same}
+use Rattle.tk_model.specs.Hashes.{mix_of}
 use Rattle.tk_restore.specs.Settings.{Setting}
-use Rattle.tk_restore.proofs.Settings.{goes_first, stable_same}
+use Rattle.tk_restore.proofs.Settings.{stable_same}
 use Rattle.tk_restore.proofs.records.sort.Goals as goal
 
 pub returns : goal.returns
 returns c =
-    stable_same _ _ (c.in_ok-sort_by.ensures.stable goes_first (ranks_by (keys_total Hash) (λ (s : Setting). s.key)) (answers_always _ _ _ (λ f a r q k. search rules)))
+    stable_same _ _ (c.in_ok-sort_by_cached_key.ensures.stable (λ (s : Setting). mix_of s.key) (always_returns_same _ _ _ (λ a r q k. search rules)))
