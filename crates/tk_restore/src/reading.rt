@@ -63,7 +63,9 @@ impl Reading {
     fn add(&mut self, alloc: Global, place: u64, block: Block<'_>) -> Result<(), NoMemory>
         requires small { IsSmall block.key.now block.value.now }
         requires held { IsHeld self.old }
-        ensures knows { (w : Walk) → Knows self.old w → OnOk result (Knows self.new (walked w (record { place = place; body = said block.entry }))) }
+        ensures knows { (w : Walk) → Knows self.old w
+            → OnOk result (Knows self.new
+            (walked w (record { place = place; body = said block.entry }))) }
         ensures held { OnOk result (IsHeld self.new) }
     {
         let change = change_of(alloc, block)?;
@@ -92,7 +94,8 @@ impl Reading {
         bytes: &[u8],
     ) -> Result<bool, NoMemory>
         requires { IsHeld self.old }
-        ensures read { (w : Walk) → Knows self.old w → IfOk result (λ more. ReadOrNot more w place extent bytes.now self.new) }
+        ensures read { (w : Walk) → Knows self.old w
+            → IfOk result (λ more. ReadOrNot more w place extent bytes.now self.new) }
         ensures held { OnOk result (IsHeld self.new) }
     {
         if bytes.len() < 24 {

@@ -71,7 +71,8 @@ fn sort(settings: &mut Vec<HashedSetting>) -> Result<(), NoMemory>
 /// The place of a key's record, or else the place where it belongs, looked for from the end.
 fn place_from_end(pairs: &[Pair], key: &[u8]) -> Result<usize, usize>
     requires { Rising Hash pairs.now }
-    ensures goes { MatchResult result (GoesAt Hash key.now pairs.now) (GoesBefore Hash key.now pairs.now) }
+    ensures goes { MatchResult result (GoesAt Hash key.now pairs.now)
+        (GoesBefore Hash key.now pairs.now) }
     ensures stands { Stands key.now pairs.now result }
 {
     for i in (0..pairs.len()).rev() {
@@ -111,8 +112,8 @@ fn settled(mut settings: Vec<HashedSetting>) -> Result<PairList, NoMemory>
     Ok(pairs)
 }
 
-/// The records that changes leave, as what was set and removed since the last sort. They take at most twice the
-/// memory of the records that lived then.
+/// The records that changes leave, as what was set and removed since the last sort. A sort comes where they take over
+/// `LEAST` bytes and over twice those of the records that lived at the sort before.
 #[derive(Drop)]
 pub(crate) struct Records {
     settings: Vec<HashedSetting>,

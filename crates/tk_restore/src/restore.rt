@@ -46,7 +46,9 @@ fn write_file<D: Disk>(
     requires small { AllPairsSmall pairs.now }
     requires end { fresh_size head.now 0 pairs.now ≤ 2 ^ 40 }
     requires empty { IfSome (D.image disk.old) (λ f. f ≡ []) }
-    ensures written { OnOk result (IfSome (D.image disk.old) (λ _. D.image disk.new ≡ Some (fresh_text head.now 0 pairs.now))) }
+    ensures written { OnOk result
+        (IfSome (D.image disk.old) (λ _.
+        D.image disk.new ≡ Some (fresh_text head.now 0 pairs.now))) }
     ensures durable { OnOk result (IfSome (D.image disk.new) (λ f. Only f (D.may_leave disk.new))) }
     ensures no_memory { result ≡ Err errors.NoMemory → D.image disk.new ≡ D.image disk.old }
     ensures outside { IfErr result IsOutside }
@@ -81,7 +83,8 @@ pub fn read_restoration<D: Disk>(alloc: Global, from: &mut D) -> Result<Restorat
     ensures refused { IfErr result (λ e. OnRefusal e (Unit {0})) }
     // the disk
     ensures image { D.image from.new ≡ D.image from.old }
-    ensures still { OnlyReads D.may_leave D.moment D.left_since D.past D.left_with from.old from.new }
+    ensures still { OnlyReads D.may_leave D.moment D.left_since D.past D.left_with from.old
+        from.new }
     ensures cause { HasOpenCause (D.fault_count from.old) (D.fault_count from.new) result }
 {
     let Some(head) = read_header(from)? else {
@@ -107,7 +110,8 @@ pub fn write_restoration<D: Disk>(
     requires fits { IsFit restoration.now }
     requires empty { IfSome (D.image to.old) (λ f. f ≡ []) }
     // what is written
-    ensures restored { (image : List ℕ) → IsReadFrom image restoration.now → IfSome (D.image to.old) (λ _.
+    ensures restored { (image : List ℕ) → IsReadFrom image restoration.now
+        → IfSome (D.image to.old) (λ _.
         IfOk result (λ n. IsSomeAnd (D.image to.new) (λ file. IsRestoredFrom image file n))) }
     ensures durable { OnOk result (IfSome (D.image to.new) (λ f. Only f (D.may_leave to.new))) }
     // the disk
@@ -135,9 +139,11 @@ pub fn restore_appending<D: Disk>(alloc: Global, from: &mut D, to: &mut D) -> Re
     ensures no_memory { result ≡ Err errors.NoMemory → D.image to.new ≡ D.image to.old }
     // the disks
     ensures image { D.image from.new ≡ D.image from.old }
-    ensures still { OnlyReads D.may_leave D.moment D.left_since D.past D.left_with from.old from.new }
+    ensures still { OnlyReads D.may_leave D.moment D.left_since D.past D.left_with from.old
+        from.new }
     ensures told { is_some (D.image to.new) ≡ is_some (D.image to.old) }
-    ensures cause { HasEitherCause (D.fault_count from.old) (D.fault_count from.new) (D.fault_count to.old) (D.fault_count to.new) result }
+    ensures cause { HasEitherCause (D.fault_count from.old) (D.fault_count from.new)
+        (D.fault_count to.old) (D.fault_count to.new) result }
 {
     let restoration = read_restoration(alloc, from)?;
     write_restoration(alloc, &restoration, to)

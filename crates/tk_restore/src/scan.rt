@@ -30,7 +30,8 @@ pub fn read_header<D: Disk>(disk: &mut D) -> Result<Option<StaticHead>, OpenErro
     ensures outside { IfErr result IsOutside }
     ensures image { D.image disk.new ≡ D.image disk.old }
     ensures cause { HasOpenCause (D.fault_count disk.old) (D.fault_count disk.new) result }
-    ensures still { OnlyReads D.may_leave D.moment D.left_since D.past D.left_with disk.old disk.new }
+    ensures still { OnlyReads D.may_leave D.moment D.left_since D.past D.left_with disk.old
+        disk.new }
 {
     let mut front = [0; 32];
     match disk.read_at(0, &mut front) {
@@ -52,14 +53,17 @@ fn fill<D: Disk>(
     requires end { place + left < 2 ^ 64 }
     requires held { length (items window.old) ≤ left }
     ensures grows { IfOk result (λ t. t ≡ true → StartsWith (items window.new) (items window.old)) }
-    ensures shows { Shows (D.image disk.old) place (items window.old) → IfOk result (λ t. t ≡ true → Shows (D.image disk.old) place (items window.new)) }
+    ensures shows { Shows (D.image disk.old) place (items window.old)
+        → IfOk result (λ t. t ≡ true → Shows (D.image disk.old) place (items window.new)) }
     ensures long { IfOk result (λ t. t ≡ true → min need left ≤ length (items window.new)) }
     ensures held { IfOk result (λ t. t ≡ true → length (items window.new) ≤ left) }
-    ensures told { IfSome (D.image disk.old) (λ f. place + left ≤ length f → IfOk result (λ t. t ≡ true)) }
+    ensures told { IfSome (D.image disk.old) (λ f. place + left ≤ length f
+        → IfOk result (λ t. t ≡ true)) }
     ensures outside { IfErr result IsOutside }
     ensures image { D.image disk.new ≡ D.image disk.old }
     ensures cause { HasOpenCause (D.fault_count disk.old) (D.fault_count disk.new) result }
-    ensures still { OnlyReads D.may_leave D.moment D.left_since D.past D.left_with disk.old disk.new }
+    ensures still { OnlyReads D.may_leave D.moment D.left_since D.past D.left_with disk.old
+        disk.new }
 {
     match window.fill(disk, place, need, left) {
         Ok(()) => Ok(true),
@@ -77,14 +81,16 @@ fn hold_block<D: Disk>(
 ) -> Result<Option<u64>, OpenError>
     requires end { place + left < 2 ^ 64 }
     requires held { length (items window.old) ≤ left }
-    ensures holds { IfSome (D.image disk.old) (λ f. length f ≡ place + left → StartsWith (drop place f) (items window.old)
+    ensures holds { IfSome (D.image disk.old) (λ f. length f ≡ place + left
+        → StartsWith (drop place f) (items window.old)
         → IfOk result (HoldsBlock f place left (items window.new))) }
     ensures held { IfOk result (λ found. IfSome found (λ _. length (items window.new) ≤ left)) }
     ensures some { IfOk result (λ found. IfSome found (λ e. 0 < e)) }
     ensures outside { IfErr result IsOutside }
     ensures image { D.image disk.new ≡ D.image disk.old }
     ensures cause { HasOpenCause (D.fault_count disk.old) (D.fault_count disk.new) result }
-    ensures still { OnlyReads D.may_leave D.moment D.left_since D.past D.left_with disk.old disk.new }
+    ensures still { OnlyReads D.may_leave D.moment D.left_since D.past D.left_with disk.old
+        disk.new }
 {
     if !fill(disk, window, place, 24, left)? {
         return Ok(None);
@@ -110,13 +116,16 @@ fn step<D: Disk>(
     requires here { place < size }
     requires held { place + length (items window.old) ≤ size }
     requires small { IsHeld reading.old }
-    ensures scanned { (h : Head) → Scanned (D.image disk.old) h size place (items window.old) reading.old
-        → IfOk result (λ next. Scanned (D.image disk.old) h size next (items window.new) reading.new) }
+    ensures scanned { (h : Head)
+        → Scanned (D.image disk.old) h size place (items window.old) reading.old
+        → IfOk result (λ next. Scanned (D.image disk.old) h size next (items window.new)
+        reading.new) }
     ensures further { IfOk result (λ next. place < next) }
     ensures outside { IfErr result IsOutside }
     ensures image { D.image disk.new ≡ D.image disk.old }
     ensures cause { HasOpenCause (D.fault_count disk.old) (D.fault_count disk.new) result }
-    ensures still { OnlyReads D.may_leave D.moment D.left_since D.past D.left_with disk.old disk.new }
+    ensures still { OnlyReads D.may_leave D.moment D.left_since D.past D.left_with disk.old
+        disk.new }
 {
     let left = size - place;
     let Some(extent) = hold_block(disk, window, place, left)? else {
@@ -140,12 +149,14 @@ pub(crate) fn read_records<D: Disk>(
     head: &StaticHead,
 ) -> Result<PairList, OpenError>
     requires p { head.now.p ≤ 24 }
-    ensures records { IfSome (D.image disk.old) (λ f. IfOk result (λ pairs. pairs ≡ replay Hash (groups_in head.now f) [])) }
+    ensures records { IfSome (D.image disk.old) (λ f.
+        IfOk result (λ pairs. pairs ≡ replay Hash (groups_in head.now f) [])) }
     ensures small { IfOk result AllPairsSmall }
     ensures outside { IfErr result IsOutside }
     ensures image { D.image disk.new ≡ D.image disk.old }
     ensures cause { HasOpenCause (D.fault_count disk.old) (D.fault_count disk.new) result }
-    ensures still { OnlyReads D.may_leave D.moment D.left_since D.past D.left_with disk.old disk.new }
+    ensures still { OnlyReads D.may_leave D.moment D.left_since D.past D.left_with disk.old
+        disk.new }
 {
     let size = length_of(disk)?;
     let mut reading = Reading::new(alloc)?;

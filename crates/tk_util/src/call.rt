@@ -87,20 +87,32 @@ pub(crate) fn unopened(cause: OpenError) -> Stop
 fn end_call<D: Disk>(store: &mut HashStore<D>, next: u64) -> Result<(), Stop>
     requires whole { IsWhole (HashStands D.image D.may_leave D.past) store.old }
     requires open { (hash_shown D.image store.old).closed ≡ false }
-    requires number { (hash_nature store.old).writable ≡ true → (hash_shown D.image store.old).floor ≤ next }
+    requires number { (hash_nature store.old).writable ≡ true
+        → (hash_shown D.image store.old).floor ≤ next }
     requires below { (hash_nature store.old).writable ≡ true → next < 2 ^ 64 - 1 }
-    ensures file { (groups since : List Group) (hard : ℕ) → HashStands D.image D.may_leave D.past store.old (opening groups) since hard
+    ensures file { (groups since : List Group) (hard : ℕ)
+        → HashStands D.image D.may_leave D.past store.old (opening groups) since hard
         → OnOk result (IfSome (D.image (hash_disk store.old)) (λ _. D.image (hash_disk store.new)
-        ≡ Some (if (hash_nature store.old).writable then closed_text (hash_head store.old) (groups ++ since) next else closed_text (hash_head store.old) groups (hash_nature store.old).next))) }
+        ≡ Some (if (hash_nature store.old).writable then closed_text (hash_head store.old)
+        (groups ++ since) next else closed_text (hash_head store.old) groups
+        (hash_nature store.old).next))) }
     ensures stops { (stop : Stopped) → result ≡ Err stop → stop ≡ Stop.Fault }
-    ensures kept { OnOk result (D.fault_count (hash_disk store.new) ≡ D.fault_count (hash_disk store.old)) }
+    ensures kept { OnOk result (D.fault_count (hash_disk store.new)
+        ≡ D.fault_count (hash_disk store.old)) }
     ensures later { D.fault_count (hash_disk store.old) ≤ D.fault_count (hash_disk store.new) }
-    ensures fault { OnErr result (Rose (D.fault_count (hash_disk store.old)) (D.fault_count (hash_disk store.new))) }
-    ensures safe { LeavesSafe (HashStood D.image D.may_leave D.past D.moment D.left_since D.left_with) (HashSafe D.image D.left_since D.left_with) [] store.old store.new }
-    ensures durable { (hash_nature store.old).writable ≡ true → OnOk result (IfSome (D.image (hash_disk store.new)) (λ f. Only f (D.may_leave (hash_disk store.new)))) }
-    ensures reads { (hash_nature store.old).writable ≡ false → HashUntouched D.image D.may_leave D.past D.moment D.left_since D.left_with store.old store.new }
+    ensures fault { OnErr result
+        (Rose (D.fault_count (hash_disk store.old)) (D.fault_count (hash_disk store.new))) }
+    ensures safe { LeavesSafe (HashStood D.image D.may_leave D.past D.moment D.left_since
+        D.left_with) (HashSafe D.image D.left_since D.left_with) [] store.old store.new }
+    ensures durable { (hash_nature store.old).writable ≡ true
+        → OnOk result (IfSome (D.image (hash_disk store.new)) (λ f.
+        Only f (D.may_leave (hash_disk store.new)))) }
+    ensures reads { (hash_nature store.old).writable ≡ false
+        → HashUntouched D.image D.may_leave D.past D.moment D.left_since D.left_with store.old
+        store.new }
     ensures nature { hash_nature store.new ≡ hash_nature store.old }
-    ensures told { is_some (hash_shown D.image store.new).map ≡ is_some (hash_shown D.image store.old).map }
+    ensures told { is_some (hash_shown D.image store.new).map
+        ≡ is_some (hash_shown D.image store.old).map }
     ensures time { D.moment (hash_disk store.old) ≤ D.moment (hash_disk store.new) }
 {
     match store.close(next) {
@@ -118,27 +130,49 @@ fn call_on<D: Disk, P: RecordProcessor>(
     p: &mut P,
 ) -> Result<Status, Stop>
     requires key { length key.now ≤ 65535 }
-    requires begun { (groups : List Group) × HashStands D.image D.may_leave D.past store.old (opening groups) [] 0 }
+    requires begun { (groups : List Group)
+        × HashStands D.image D.may_leave D.past store.old (opening groups) [] 0 }
     requires open { (hash_shown D.image store.old).closed ≡ false }
     requires limit { (hash_nature store.old).limit ≡ 2 ^ 40 }
     requires low { (hash_nature store.old).writable ≡ true → (hash_nature store.old).next ≤ 2 ^ 62 }
-    requires may { ((was : Option (List ℕ)) → P.acts p.old key.now was ≡ Keep) ⊎ ((hash_nature store.old).writable ≡ true) }
-    ensures made { (groups : List Group) → HashStands D.image D.may_leave D.past store.old (opening groups) [] 0 → IfSome (D.image (hash_disk store.old)) (λ _.
-        IfOk result (MadeOn P.acts P.turns (hash_head store.old) groups (hash_nature store.old).next (hash_nature store.old).writable key.now p.old p.new (D.image (hash_disk store.new)))) }
-    ensures no_room { (groups : List Group) → HashStands D.image D.may_leave D.past store.old (opening groups) [] 0 → IfSome (D.image (hash_disk store.old)) (λ _.
-        result ≡ Err Stop.Full → NoRoomOn P.acts (hash_head store.old) groups (hash_nature store.old).next key.now p.old (D.image (hash_disk store.new))) }
-    ensures no_memory { (groups : List Group) → HashStands D.image D.may_leave D.past store.old (opening groups) [] 0 → IfSome (D.image (hash_disk store.old)) (λ _.
-        result ≡ Err Stop.NoMemory → D.image (hash_disk store.new) ≡ Some (closed_text (hash_head store.old) groups (hash_nature store.old).next)) }
+    requires may { ((was : Option (List ℕ)) → P.acts p.old key.now was ≡ Keep)
+        ⊎ ((hash_nature store.old).writable ≡ true) }
+    ensures made { (groups : List Group)
+        → HashStands D.image D.may_leave D.past store.old (opening groups) [] 0
+        → IfSome (D.image (hash_disk store.old)) (λ _.
+        IfOk result (MadeOn P.acts P.turns (hash_head store.old) groups (hash_nature store.old).next
+        (hash_nature store.old).writable key.now p.old p.new (D.image (hash_disk store.new)))) }
+    ensures no_room { (groups : List Group)
+        → HashStands D.image D.may_leave D.past store.old (opening groups) [] 0
+        → IfSome (D.image (hash_disk store.old)) (λ _.
+        result ≡ Err Stop.Full → NoRoomOn P.acts (hash_head store.old) groups
+        (hash_nature store.old).next key.now p.old (D.image (hash_disk store.new))) }
+    ensures no_memory { (groups : List Group)
+        → HashStands D.image D.may_leave D.past store.old (opening groups) [] 0
+        → IfSome (D.image (hash_disk store.old)) (λ _.
+        result ≡ Err Stop.NoMemory
+        → D.image (hash_disk store.new)
+        ≡ Some (closed_text (hash_head store.old) groups (hash_nature store.old).next)) }
     ensures taken { (place : ℕ) → result ≡ Err (Stop.Refused place) → ⊥ }
-    ensures safe { (groups : List Group) → HashStands D.image D.may_leave D.past store.old (opening groups) [] 0 → IfSome (D.image (hash_disk store.old)) (λ _.
-        (since : List Group) × MayAdd (hash_nature store.old).next (call_changes P.acts p.old key.now (replay Hash groups [])) since
-        × HashSafe D.image D.left_since D.left_with store.new (D.moment (hash_disk store.old)) (opening groups) since 0) }
-    ensures crash { (hash_nature store.old).writable ≡ true → CrashDone result (D.may_leave (hash_disk store.old)) (D.may_leave (hash_disk store.new)) (D.image (hash_disk store.new)) }
-    ensures reads { (hash_nature store.old).writable ≡ false → IsStill (D.image (hash_disk store.old)) (D.image (hash_disk store.new)) (D.may_leave (hash_disk store.old)) (D.may_leave (hash_disk store.new)) }
+    ensures safe { (groups : List Group)
+        → HashStands D.image D.may_leave D.past store.old (opening groups) [] 0
+        → IfSome (D.image (hash_disk store.old)) (λ _.
+        (since : List Group) × MayAdd (hash_nature store.old).next
+        (call_changes P.acts p.old key.now (replay Hash groups [])) since
+        × HashSafe D.image D.left_since D.left_with store.new (D.moment (hash_disk store.old))
+        (opening groups) since 0) }
+    ensures crash { (hash_nature store.old).writable ≡ true
+        → CrashDone result (D.may_leave (hash_disk store.old)) (D.may_leave (hash_disk store.new))
+        (D.image (hash_disk store.new)) }
+    ensures reads { (hash_nature store.old).writable ≡ false
+        → IsStill (D.image (hash_disk store.old)) (D.image (hash_disk store.new))
+        (D.may_leave (hash_disk store.old)) (D.may_leave (hash_disk store.new)) }
     ensures nature { hash_nature store.new ≡ hash_nature store.old }
-    ensures told { is_some (hash_shown D.image store.new).map ≡ is_some (hash_shown D.image store.old).map }
+    ensures told { is_some (hash_shown D.image store.new).map
+        ≡ is_some (hash_shown D.image store.old).map }
     ensures time { D.moment (hash_disk store.old) ≤ D.moment (hash_disk store.new) }
-    ensures cause { HasCause Stop.Fault (D.fault_count (hash_disk store.old)) (D.fault_count (hash_disk store.new)) result }
+    ensures cause { HasCause Stop.Fault (D.fault_count (hash_disk store.old))
+        (D.fault_count (hash_disk store.new)) result }
 {
     let next = store.next_number();
     match run_on(alloc, store, next, key, p) {
@@ -168,16 +202,32 @@ pub(crate) fn run_call<D: Disk, P: RecordProcessor>(
 ) -> Called<D>
     requires key { length key.now ≤ 65535 }
     requires may { ((was : Option (List ℕ)) → P.acts p.old key.now was ≡ Keep) ⊎ (writable ≡ true) }
-    ensures made { IfSome (D.image disk) (λ f. IfOk result.answer (Made P.acts P.turns writable f key.now p.old p.new (D.image result.disk))) }
-    ensures no_room { IfSome (D.image disk) (λ f. result.answer ≡ Err Stop.Full → NoRoom P.acts writable f key.now p.old (D.image result.disk)) }
-    ensures refused { IfSome (D.image disk) (λ f. (place : ℕ) → result.answer ≡ Err (Stop.Refused place) → RefusedAt writable f place × (D.image result.disk ≡ Some f)) }
-    ensures no_memory { IfSome (D.image disk) (λ f. result.answer ≡ Err Stop.NoMemory → D.image result.disk ≡ Some f) }
-    ensures spared { writable ≡ true → IfSome (D.image disk) (λ f. Spares f (D.may_leave disk) (D.may_leave result.disk)) }
-    ensures crash { writable ≡ true → CrashDone result.answer (D.may_leave disk) (D.may_leave result.disk) (D.image result.disk) }
-    ensures crashes { writable ≡ true → IfSome (D.image disk) (λ f. Interrupts (λ groups. call_changes P.acts p.old key.now (replay Hash groups [])) f (D.moment disk) (D.moment result.disk)
-        (D.may_leave disk) (D.left_since disk) (D.left_since result.disk) (D.left_with result.disk)) }
-    ensures reads { writable ≡ false → IsStill (D.image disk) (D.image result.disk) (D.may_leave disk) (D.may_leave result.disk) }
-    ensures cause { HasCause Stop.Fault (D.fault_count disk) (D.fault_count result.disk) result.answer }
+    ensures made { IfSome (D.image disk) (λ f.
+        IfOk result.answer (Made P.acts P.turns writable f key.now p.old p.new
+        (D.image result.disk))) }
+    ensures no_room { IfSome (D.image disk) (λ f. result.answer ≡ Err Stop.Full
+        → NoRoom P.acts writable f key.now p.old (D.image result.disk)) }
+    ensures refused { IfSome (D.image disk) (λ f. (place : ℕ)
+        → result.answer ≡ Err (Stop.Refused place) → RefusedAt writable f place
+        × (D.image result.disk ≡ Some f)) }
+    ensures no_memory { IfSome (D.image disk) (λ f. result.answer ≡ Err Stop.NoMemory
+        → D.image result.disk ≡ Some f) }
+    ensures spared { writable ≡ true
+        → IfSome (D.image disk) (λ f. Spares f (D.may_leave disk) (D.may_leave result.disk)) }
+    ensures crash { writable ≡ true
+        → CrashDone result.answer (D.may_leave disk) (D.may_leave result.disk)
+        (D.image result.disk) }
+    ensures crashes { writable ≡ true
+        → IfSome (D.image disk) (λ f.
+        Interrupts (λ groups. call_changes P.acts p.old key.now (replay Hash groups [])) f
+        (D.moment disk) (D.moment result.disk)
+        (D.may_leave disk) (D.left_since disk) (D.left_since result.disk)
+        (D.left_with result.disk)) }
+    ensures reads { writable ≡ false
+        → IsStill (D.image disk) (D.image result.disk) (D.may_leave disk)
+        (D.may_leave result.disk) }
+    ensures cause { HasCause Stop.Fault (D.fault_count disk) (D.fault_count result.disk)
+        result.answer }
 {
     let alone = ShardOf { index: 0, of: 1 };
     let mut store = match HashStore::open_file(alloc, disk, writable, LIMIT, alone) {

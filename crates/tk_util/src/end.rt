@@ -36,7 +36,8 @@ pub(crate) fn with_status(answer: Result<Status, Stop>, status: Status) -> Resul
 /// Prints a value as a line.
 pub(crate) fn print<W: Sink>(out: &mut W, value: &[u8]) -> Result<(), IoError>
     ensures ok { OnOk result (Appends (W.held out.old) (W.held out.new) (value.now ++ 10 ∷ [])) }
-    ensures err { OnErr result (AppendsFront (W.held out.old) (W.held out.new) (value.now ++ 10 ∷ [])) }
+    ensures err { OnErr result (AppendsFront (W.held out.old) (W.held out.new)
+        (value.now ++ 10 ∷ [])) }
     ensures cause { HasCause (W.fault_count out.old) (W.fault_count out.new) result }
 {
     match out.write_all(value) {

@@ -22,9 +22,11 @@ pub(crate) fn get_from<D: Disk>(
     getter: &mut Getter,
 ) -> Called<D>
     requires key { length key.now < 2 ^ 16 }
-    ensures call { IfSome (D.image disk) (λ f. GetDone key.now f (D.image result.disk) getter.new result.answer) }
+    ensures call { IfSome (D.image disk) (λ f.
+        GetDone key.now f (D.image result.disk) getter.new result.answer) }
     ensures still { Within (D.may_leave disk) (D.may_leave result.disk) }
-    ensures cause { HasCause Stop.Fault (D.fault_count disk) (D.fault_count result.disk) result.answer }
+    ensures cause { HasCause Stop.Fault (D.fault_count disk) (D.fault_count result.disk)
+        result.answer }
 {
     let Called { disk, answer } = run_call(alloc, disk, false, key, getter);
     let answer = with_status(answer, getter.status());
@@ -34,12 +36,19 @@ pub(crate) fn get_from<D: Disk>(
 /// One call that removes the record of a key.
 pub(crate) fn remove_from<D: Disk>(alloc: Global, disk: D, key: &[u8]) -> Called<D>
     requires key { length key.now < 2 ^ 16 }
-    ensures call { IfSome (D.image disk) (λ f. CallDone true remove_reply key.now f (D.image result.disk) result.answer) }
-    ensures spared { IfSome (D.image disk) (λ f. Spares f (D.may_leave disk) (D.may_leave result.disk)) }
-    ensures crash { CrashDone result.answer (D.may_leave disk) (D.may_leave result.disk) (D.image result.disk) }
-    ensures crashes { IfSome (D.image disk) (λ f. Interrupts (λ groups. reply_changes remove_reply groups key.now) f (D.moment disk) (D.moment result.disk)
-        (D.may_leave disk) (D.left_since disk) (D.left_since result.disk) (D.left_with result.disk)) }
-    ensures cause { HasCause Stop.Fault (D.fault_count disk) (D.fault_count result.disk) result.answer }
+    ensures call { IfSome (D.image disk) (λ f.
+        CallDone true remove_reply key.now f (D.image result.disk) result.answer) }
+    ensures spared { IfSome (D.image disk) (λ f.
+        Spares f (D.may_leave disk) (D.may_leave result.disk)) }
+    ensures crash { CrashDone result.answer (D.may_leave disk) (D.may_leave result.disk)
+        (D.image result.disk) }
+    ensures crashes { IfSome (D.image disk) (λ f.
+        Interrupts (λ groups. reply_changes remove_reply groups key.now) f (D.moment disk)
+        (D.moment result.disk)
+        (D.may_leave disk) (D.left_since disk) (D.left_since result.disk)
+        (D.left_with result.disk)) }
+    ensures cause { HasCause Stop.Fault (D.fault_count disk) (D.fault_count result.disk)
+        result.answer }
 {
     let mut remover = Remover::new();
     let Called { disk, answer } = run_call(alloc, disk, true, key, &mut remover);

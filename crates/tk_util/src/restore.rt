@@ -46,11 +46,15 @@ fn read_image<D: Disk>(alloc: Global, from: &mut D) -> Result<Restoration, Stop>
 /// Writes the new file where the disk is empty, and answers whether it was.
 fn write_new<D: Disk>(alloc: Global, restoration: &Restoration, to: &mut D) -> Result<bool, Stop>
     requires fits { IsFit restoration.now }
-    ensures written { (image : List ℕ) → IsReadFrom image restoration.now → IfSome (D.image to.old) (λ f. NewWritten image f (D.image to.new) result) }
+    ensures written { (image : List ℕ) → IsReadFrom image restoration.now
+        → IfSome (D.image to.old) (λ f. NewWritten image f (D.image to.new) result) }
     ensures stops { IfErr result IsWriteStop }
-    ensures unwritten { IfSome (D.image to.old) (λ f. f ≢ [] → Within (D.may_leave to.old) (D.may_leave to.new)) }
-    ensures present { IfOk result (λ b. b ≡ false → Within (D.may_leave to.old) (D.may_leave to.new)) }
-    ensures durable { IfOk result (λ b. b ≡ true → IfSome (D.image to.new) (λ f. Only f (D.may_leave to.new))) }
+    ensures unwritten { IfSome (D.image to.old) (λ f. f ≢ []
+        → Within (D.may_leave to.old) (D.may_leave to.new)) }
+    ensures present { IfOk result (λ b. b ≡ false
+        → Within (D.may_leave to.old) (D.may_leave to.new)) }
+    ensures durable { IfOk result (λ b. b ≡ true
+        → IfSome (D.image to.new) (λ f. Only f (D.may_leave to.new))) }
     ensures cause { HasCause Stop.Fault (D.fault_count to.old) (D.fault_count to.new) result }
 {
     if to.len()? > 0 {
@@ -65,14 +69,20 @@ fn write_new<D: Disk>(alloc: Global, restoration: &Restoration, to: &mut D) -> R
 /// Takes what a file is restored to out of its folder.
 fn read_from<F: Folder>(alloc: Global, folder: &mut F, name: &str) -> Result<Restoration, Finish>
     requires home { NoneOut (F.is_out folder.old) }
-    ensures read { F.tells folder.old ≡ true → IfOk result (λ r. IsReadFrom (or_empty (F.file folder.old name.now)) r × (restore_fault (or_empty (F.file folder.old name.now)) ≡ None)) }
+    ensures read { F.tells folder.old ≡ true
+        → IfOk result (λ r. IsReadFrom (or_empty (F.file folder.old name.now)) r
+        × (restore_fault (or_empty (F.file folder.old name.now)) ≡ None)) }
     ensures fits { IfOk result IsFit }
     ensures stopped { IfErr result (ReadStopped (F.tells folder.old) (F.file folder.old name.now)) }
-    ensures files { F.tells folder.old ≡ true → (m : List ℕ) → F.file folder.new m ≡ F.file folder.old m }
+    ensures files { F.tells folder.old ≡ true → (m : List ℕ)
+        → F.file folder.new m ≡ F.file folder.old m }
     ensures crash { (m : List ℕ) → Within (F.leaves folder.old m) (F.leaves folder.new m) }
     ensures met { OnOk result (F.fault_count folder.new ≡ F.fault_count folder.old) }
-    ensures disks_met { OnOk result ((m : List ℕ) → F.disk_faults folder.new m ≡ F.disk_faults folder.old m) }
-    ensures counts { IfErr result (EndsByCounts (F.fault_count folder.old) (F.fault_count folder.new) (F.disk_faults folder.old) (F.disk_faults folder.new)) }
+    ensures disks_met { OnOk result ((m : List ℕ)
+        → F.disk_faults folder.new m ≡ F.disk_faults folder.old m) }
+    ensures counts { IfErr result
+        (EndsByCounts (F.fault_count folder.old) (F.fault_count folder.new)
+        (F.disk_faults folder.old) (F.disk_faults folder.new)) }
     ensures tells { F.tells folder.new ≡ F.tells folder.old }
     ensures closed { NoneOut (F.is_out folder.new) }
 {
@@ -100,12 +110,18 @@ fn write_to<F: Folder>(
 ) -> Finish
     requires fits { IsFit restoration.now }
     requires home { NoneOut (F.is_out folder.old) }
-    ensures wrote { F.tells folder.old ≡ true → (image : List ℕ) → IsReadFrom image restoration.now → WroteNew image (F.file folder.old name.now) (F.file folder.new name.now) result }
-    ensures settled { F.tells folder.old ≡ true → (image : List ℕ) → IsReadFrom image restoration.now
-        → ((end : End) × IsWriteEnd end × (end.status ≢ 4) × WroteNew image (F.file folder.old name.now) (F.file folder.new name.now) end) ⊎ Rose (F.disk_faults folder.old name.now) (F.disk_faults folder.new name.now) }
+    ensures wrote { F.tells folder.old ≡ true → (image : List ℕ) → IsReadFrom image restoration.now
+        → WroteNew image (F.file folder.old name.now) (F.file folder.new name.now) result }
+    ensures settled { F.tells folder.old ≡ true → (image : List ℕ)
+        → IsReadFrom image restoration.now
+        → ((end : End) × IsWriteEnd end × (end.status ≢ 4)
+        × WroteNew image (F.file folder.old name.now) (F.file folder.new name.now) end)
+        ⊎ Rose (F.disk_faults folder.old name.now) (F.disk_faults folder.new name.now) }
     ensures others { SameBut name.now (F.file folder.old) (F.file folder.new) }
-    ensures crash { LeavesToCrash true (F.tells folder.old) name.now (F.file folder.old name.now) (F.file folder.new name.now) (F.leaves folder.old) (F.leaves folder.new) result }
-    ensures counts { EndsByCounts (F.fault_count folder.old) (F.fault_count folder.new) (F.disk_faults folder.old) (F.disk_faults folder.new) result }
+    ensures crash { LeavesToCrash true (F.tells folder.old) name.now (F.file folder.old name.now)
+        (F.file folder.new name.now) (F.leaves folder.old) (F.leaves folder.new) result }
+    ensures counts { EndsByCounts (F.fault_count folder.old) (F.fault_count folder.new)
+        (F.disk_faults folder.old) (F.disk_faults folder.new) result }
     ensures ends { IsWriteEnd result }
     ensures tells { F.tells folder.new ≡ F.tells folder.old }
     ensures closed { NoneOut (F.is_out folder.new) }
@@ -137,16 +153,27 @@ pub(crate) fn run_restore<F: Folder>(
     requires differ { restore.from.now ≢ restore.to.now }
     requires home { NoneOut (F.is_out folder.old) }
     ensures ran { (left held : Option (List ℕ)) → F.tells folder.old ≡ true
-        → RanRestore (restore_said restore.entry) (record { files = F.file folder.old; left = left; held = held }) (record { files = F.file folder.new; left = left; held = held }) result }
+        → RanRestore (restore_said restore.entry)
+        (record { files = F.file folder.old; left = left; held = held })
+        (record { files = F.file folder.new; left = left; held = held }) result }
     ensures settled { (left held : Option (List ℕ)) → F.tells folder.old ≡ true
-        → Settled (Restore (restore_said restore.entry)) (record { files = F.file folder.old; left = left; held = held }) (record { files = F.file folder.new; left = left; held = held })
-        ⊎ RoseOf (Restore (restore_said restore.entry)) (F.disk_faults folder.old) (F.disk_faults folder.new) }
-    ensures crash { LeavesToCrash true (F.tells folder.old) restore.entry.to.now (F.file folder.old restore.entry.to.now) (F.file folder.new restore.entry.to.now) (F.leaves folder.old) (F.leaves folder.new) result }
+        → Settled (Restore (restore_said restore.entry))
+        (record { files = F.file folder.old; left = left; held = held })
+        (record { files = F.file folder.new; left = left; held = held })
+        ⊎ RoseOf (Restore (restore_said restore.entry)) (F.disk_faults folder.old)
+        (F.disk_faults folder.new) }
+    ensures crash { LeavesToCrash true (F.tells folder.old) restore.entry.to.now
+        (F.file folder.old restore.entry.to.now) (F.file folder.new restore.entry.to.now)
+        (F.leaves folder.old) (F.leaves folder.new) result }
     ensures fields { IsEnd result }
     ensures status { IsRunStatus (Restore (restore_said restore.entry)) result.status }
-    ensures fault { result.status ≡ 4 → RoseIn (F.fault_count folder.old) (F.fault_count folder.new) (F.disk_faults folder.old) (F.disk_faults folder.new) }
-    ensures folder_met { result.status ≢ 3 → result.status ≢ 4 → result.status ≢ 7 → F.fault_count folder.new ≡ F.fault_count folder.old }
-    ensures disks_met { result.status ≢ 3 → result.status ≢ 4 → result.status ≢ 7 → (name : List ℕ) → F.disk_faults folder.new name ≡ F.disk_faults folder.old name }
+    ensures fault { result.status ≡ 4
+        → RoseIn (F.fault_count folder.old) (F.fault_count folder.new) (F.disk_faults folder.old)
+        (F.disk_faults folder.new) }
+    ensures folder_met { result.status ≢ 3 → result.status ≢ 4 → result.status ≢ 7
+        → F.fault_count folder.new ≡ F.fault_count folder.old }
+    ensures disks_met { result.status ≢ 3 → result.status ≢ 4 → result.status ≢ 7 → (name : List ℕ)
+        → F.disk_faults folder.new name ≡ F.disk_faults folder.old name }
     ensures tells { F.tells folder.new ≡ F.tells folder.old }
     ensures closed { NoneOut (F.is_out folder.new) }
 {

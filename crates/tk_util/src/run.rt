@@ -25,32 +25,59 @@ pub fn run_util<F: Folder, R: Source, W: Sink>(
     out: &mut W,
 ) -> Finish
     requires { NoneOut (F.is_out folder.old) }
+    // the answer, and what it leaves
     ensures usage { result.status ≡ 1 ↔ command_of (words_of words.now) ≡ None }
-    ensures untouched { result.status ≡ 1 → ((name : List ℕ) → F.file folder.new name ≡ F.file folder.old name) × (W.held out.new ≡ W.held out.old) }
-    ensures ran { (c : Command) → command_of (words_of words.now) ≡ Some c → F.tells folder.old ≡ true
-        → Ran c (record { files = F.file folder.old; left = R.left source.old; held = W.held out.old }) (record { files = F.file folder.new; left = R.left source.new; held = W.held out.new }) result }
-    ensures settled { (c : Command) → command_of (words_of words.now) ≡ Some c → F.tells folder.old ≡ true
-        → Settled c (record { files = F.file folder.old; left = R.left source.old; held = W.held out.old }) (record { files = F.file folder.new; left = R.left source.new; held = W.held out.old })
+    ensures untouched { result.status ≡ 1
+        → ((name : List ℕ) → F.file folder.new name ≡ F.file folder.old name)
+        × (W.held out.new ≡ W.held out.old) }
+    ensures ran { (c : Command) → command_of (words_of words.now) ≡ Some c
+        → F.tells folder.old ≡ true
+        → Ran c
+        (record { files = F.file folder.old; left = R.left source.old; held = W.held out.old })
+        (record { files = F.file folder.new; left = R.left source.new; held = W.held out.new })
+        result }
+    ensures settled { (c : Command) → command_of (words_of words.now) ≡ Some c
+        → F.tells folder.old ≡ true
+        → Settled c
+        (record { files = F.file folder.old; left = R.left source.old; held = W.held out.old })
+        (record { files = F.file folder.new; left = R.left source.new; held = W.held out.old })
         ⊎ RoseOf c (F.disk_faults folder.old) (F.disk_faults folder.new) }
-    ensures spared { (c : Command) → command_of (words_of words.now) ≡ Some c → writes c ≡ true → F.tells folder.old ≡ true
-        → Spares (or_empty (F.file folder.old (file_of c))) (F.leaves folder.old (file_of c)) (F.leaves folder.new (file_of c)) }
-    ensures still { (c : Command) → command_of (words_of words.now) ≡ Some c → (writes c ≡ false) ⊎ ((result.status ≡ 3) ⊎ (result.status ≡ 7))
+    // what a crash leaves
+    ensures spared { (c : Command) → command_of (words_of words.now) ≡ Some c → writes c ≡ true
+        → F.tells folder.old ≡ true
+        → Spares (or_empty (F.file folder.old (file_of c))) (F.leaves folder.old (file_of c))
+        (F.leaves folder.new (file_of c)) }
+    ensures still { (c : Command) → command_of (words_of words.now) ≡ Some c → (writes c ≡ false)
+        ⊎ ((result.status ≡ 3) ⊎ (result.status ≡ 7))
         → Within (F.leaves folder.old (file_of c)) (F.leaves folder.new (file_of c)) }
-    ensures durable { (c : Command) → command_of (words_of words.now) ≡ Some c → writes c ≡ true → (result.status ≡ 0) ⊎ (result.status ≡ 6) → F.tells folder.old ≡ true
+    ensures durable { (c : Command) → command_of (words_of words.now) ≡ Some c → writes c ≡ true
+        → (result.status ≡ 0) ⊎ (result.status ≡ 6) → F.tells folder.old ≡ true
         → IfSome (F.file folder.new (file_of c)) (λ f. Only f (F.leaves folder.new (file_of c))) }
-    ensures crashes { (c : Command) → command_of (words_of words.now) ≡ Some c → F.tells folder.old ≡ true
-        → InterruptsCommand c (or_empty (F.file folder.old (file_of c))) (F.moment_of folder.old (file_of c)) (F.moment_of folder.new (file_of c))
-        (F.leaves folder.old (file_of c)) (F.left_since folder.old (file_of c)) (F.left_since folder.new (file_of c)) (F.left_with folder.new (file_of c)) }
-    ensures others { (c : Command) → command_of (words_of words.now) ≡ Some c → OthersWithin (file_of c) (F.leaves folder.old) (F.leaves folder.new) }
+    ensures crashes { (c : Command) → command_of (words_of words.now) ≡ Some c
+        → F.tells folder.old ≡ true
+        → InterruptsCommand c (or_empty (F.file folder.old (file_of c)))
+        (F.moment_of folder.old (file_of c)) (F.moment_of folder.new (file_of c))
+        (F.leaves folder.old (file_of c)) (F.left_since folder.old (file_of c))
+        (F.left_since folder.new (file_of c)) (F.left_with folder.new (file_of c)) }
+    ensures others { (c : Command) → command_of (words_of words.now) ≡ Some c
+        → OthersWithin (file_of c) (F.leaves folder.old) (F.leaves folder.new) }
+    // ends and counts
     ensures left { R.left source.new ≡ R.left source.old }
     ensures fields { IsEnd result }
-    ensures status { (c : Command) → command_of (words_of words.now) ≡ Some c → IsRunStatus c result.status }
+    ensures status { (c : Command) → command_of (words_of words.now) ≡ Some c
+        → IsRunStatus c result.status }
     ensures clean { (c : Command) → command_of (words_of words.now) ≡ Some c → result.status ≡ 0
-        → (F.fault_count folder.new ≡ F.fault_count folder.old) × (F.disk_faults folder.new (file_of c) ≡ F.disk_faults folder.old (file_of c)) × (W.fault_count out.new ≡ W.fault_count out.old) }
+        → (F.fault_count folder.new ≡ F.fault_count folder.old)
+        × (F.disk_faults folder.new (file_of c) ≡ F.disk_faults folder.old (file_of c))
+        × (W.fault_count out.new ≡ W.fault_count out.old) }
     ensures fault { result.status ≡ 4 → Rose (F.fault_count folder.old) (F.fault_count folder.new)
-        ⊎ (((name : List ℕ) × Rose (F.disk_faults folder.old name) (F.disk_faults folder.new name)) ⊎ Rose (W.fault_count out.old) (W.fault_count out.new)) }
-    ensures met { result.status ≢ 3 → result.status ≢ 4 → result.status ≢ 7 → F.fault_count folder.new ≡ F.fault_count folder.old }
-    ensures disks_met { result.status ≢ 3 → result.status ≢ 4 → result.status ≢ 7 → (name : List ℕ) → F.disk_faults folder.new name ≡ F.disk_faults folder.old name }
+        ⊎ (((name : List ℕ) × Rose (F.disk_faults folder.old name) (F.disk_faults folder.new name))
+        ⊎ Rose (W.fault_count out.old) (W.fault_count out.new)) }
+    ensures met { result.status ≢ 3 → result.status ≢ 4 → result.status ≢ 7
+        → F.fault_count folder.new ≡ F.fault_count folder.old }
+    ensures disks_met { result.status ≢ 3 → result.status ≢ 4 → result.status ≢ 7 → (name : List ℕ)
+        → F.disk_faults folder.new name ≡ F.disk_faults folder.old name }
+    // the folder
     ensures tells { F.tells folder.new ≡ F.tells folder.old }
     ensures closed { NoneOut (F.is_out folder.new) }
 {

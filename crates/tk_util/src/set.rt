@@ -49,14 +49,20 @@ fn set_fresh<D: Disk>(
 ) -> Result<bool, DiskError>
     requires key { length key.now < 2 ^ 16 }
     requires value { length value.now ≤ 16777215 }
-    ensures fresh { IfOk result (λ b. b ≡ true → IfSome (D.image disk.old) (λ f. (f ≡ []) × (D.image disk.new ≡ Some (set_text key.now value.now)))) }
+    ensures fresh { IfOk result (λ b. b ≡ true
+        → IfSome (D.image disk.old) (λ f. (f ≡ [])
+        × (D.image disk.new ≡ Some (set_text key.now value.now)))) }
     ensures full { IfOk result (λ b. b ≡ false → IfSome (D.image disk.old) (λ f. f ≢ [])) }
     ensures kept { IfSome (D.image disk.old) (λ f. f ≢ [] → D.image disk.new ≡ D.image disk.old) }
     ensures no_memory { result ≡ Err DiskError.NoMemory → D.image disk.new ≡ D.image disk.old }
-    ensures left { IfSome (D.image disk.old) (λ f. f ≢ [] → Within (D.may_leave disk.old) (D.may_leave disk.new)) }
-    ensures looks { IfSome (D.image disk.old) (λ f. f ≢ [] → OnlyReads D.may_leave D.moment D.left_since D.past D.left_with disk.old disk.new) }
-    ensures durable { IfOk result (λ b. b ≡ true → IfSome (D.image disk.new) (λ f. Only f (D.may_leave disk.new))) }
-    ensures unwritten { IfOk result (λ b. b ≡ false → Within (D.may_leave disk.old) (D.may_leave disk.new)) }
+    ensures left { IfSome (D.image disk.old) (λ f. f ≢ []
+        → Within (D.may_leave disk.old) (D.may_leave disk.new)) }
+    ensures looks { IfSome (D.image disk.old) (λ f. f ≢ []
+        → OnlyReads D.may_leave D.moment D.left_since D.past D.left_with disk.old disk.new) }
+    ensures durable { IfOk result (λ b. b ≡ true
+        → IfSome (D.image disk.new) (λ f. Only f (D.may_leave disk.new))) }
+    ensures unwritten { IfOk result (λ b. b ≡ false
+        → Within (D.may_leave disk.old) (D.may_leave disk.new)) }
     ensures cause { HasFaultCause (D.fault_count disk.old) (D.fault_count disk.new) result }
 {
     if disk.len()? > 0 {
@@ -77,12 +83,19 @@ fn set_fresh<D: Disk>(
 fn set_more<D: Disk>(alloc: Global, disk: D, key: &[u8], value: &[u8]) -> Called<D>
     requires key { length key.now < 2 ^ 16 }
     requires value { length value.now ≤ 16777215 }
-    ensures call { IfSome (D.image disk) (λ f. CallDone true (set_reply value.now true) key.now f (D.image result.disk) result.answer) }
-    ensures spared { IfSome (D.image disk) (λ f. Spares f (D.may_leave disk) (D.may_leave result.disk)) }
-    ensures crash { CrashDone result.answer (D.may_leave disk) (D.may_leave result.disk) (D.image result.disk) }
-    ensures crashes { IfSome (D.image disk) (λ f. Interrupts (λ groups. reply_changes (set_reply value.now true) groups key.now) f (D.moment disk) (D.moment result.disk)
-        (D.may_leave disk) (D.left_since disk) (D.left_since result.disk) (D.left_with result.disk)) }
-    ensures cause { HasCause Stop.Fault (D.fault_count disk) (D.fault_count result.disk) result.answer }
+    ensures call { IfSome (D.image disk) (λ f.
+        CallDone true (set_reply value.now true) key.now f (D.image result.disk) result.answer) }
+    ensures spared { IfSome (D.image disk) (λ f.
+        Spares f (D.may_leave disk) (D.may_leave result.disk)) }
+    ensures crash { CrashDone result.answer (D.may_leave disk) (D.may_leave result.disk)
+        (D.image result.disk) }
+    ensures crashes { IfSome (D.image disk) (λ f.
+        Interrupts (λ groups. reply_changes (set_reply value.now true) groups key.now) f
+        (D.moment disk) (D.moment result.disk)
+        (D.may_leave disk) (D.left_since disk) (D.left_since result.disk)
+        (D.left_with result.disk)) }
+    ensures cause { HasCause Stop.Fault (D.fault_count disk) (D.fault_count result.disk)
+        result.answer }
 {
     let Ok(value) = Bytes::from_slice(alloc, value) else {
         return Called {
@@ -100,12 +113,20 @@ fn set_more<D: Disk>(alloc: Global, disk: D, key: &[u8], value: &[u8]) -> Called
 pub(crate) fn set_on<D: Disk>(alloc: Global, mut disk: D, key: &[u8], value: &[u8]) -> Called<D>
     requires key { length key.now < 2 ^ 16 }
     requires value { length value.now ≤ 16777215 }
-    ensures call { IfSome (D.image disk) (λ f. SetDone key.now value.now f (D.image result.disk) result.answer) }
-    ensures spared { IfSome (D.image disk) (λ f. Spares f (D.may_leave disk) (D.may_leave result.disk)) }
-    ensures crash { CrashDone result.answer (D.may_leave disk) (D.may_leave result.disk) (D.image result.disk) }
-    ensures crashes { IfSome (D.image disk) (λ f. f ≢ [] → Interrupts (λ groups. reply_changes (set_reply value.now true) groups key.now) f (D.moment disk) (D.moment result.disk)
-        (D.may_leave disk) (D.left_since disk) (D.left_since result.disk) (D.left_with result.disk)) }
-    ensures cause { HasCause Stop.Fault (D.fault_count disk) (D.fault_count result.disk) result.answer }
+    ensures call { IfSome (D.image disk) (λ f.
+        SetDone key.now value.now f (D.image result.disk) result.answer) }
+    ensures spared { IfSome (D.image disk) (λ f.
+        Spares f (D.may_leave disk) (D.may_leave result.disk)) }
+    ensures crash { CrashDone result.answer (D.may_leave disk) (D.may_leave result.disk)
+        (D.image result.disk) }
+    ensures crashes { IfSome (D.image disk) (λ f. f ≢ []
+        → Interrupts (λ groups.
+        reply_changes (set_reply value.now true) groups key.now) f (D.moment disk)
+        (D.moment result.disk)
+        (D.may_leave disk) (D.left_since disk) (D.left_since result.disk)
+        (D.left_with result.disk)) }
+    ensures cause { HasCause Stop.Fault (D.fault_count disk) (D.fault_count result.disk)
+        result.answer }
 {
     match set_fresh(alloc, &mut disk, key, value) {
         Ok(true) => Called {

@@ -96,7 +96,8 @@ fn is_value(value: &[u8]) -> bool
 
 /// The operands among words, where no option is.
 fn operands_of(words: &[String]) -> Option<Operands<'_>>
-    ensures { MatchOption result (operands (words_of words.now) ≡ None) (λ o. operands (words_of words.now) ≡ Some (all_of o)) }
+    ensures { MatchOption result (operands (words_of words.now) ≡ None) (λ o.
+        operands (words_of words.now) ≡ Some (all_of o)) }
 {
     for i in 0..words.len() {
         let word = words[i].as_str();
@@ -119,7 +120,8 @@ fn operands_of(words: &[String]) -> Option<Operands<'_>>
 /// Two operands, of any bytes.
 #[tactic(auto, using(crate::proofs::WordSteps::length_all))]
 fn two_of(operands: Operands<'_>) -> Option<(&str, &str)>
-    ensures { MatchOption result (length (all_of operands.entry) ≢ 2) (λ two. all_of operands.entry ≡ two.0.now ∷ two.1.now ∷ []) }
+    ensures { MatchOption result (length (all_of operands.entry) ≢ 2) (λ two.
+        all_of operands.entry ≡ two.0.now ∷ two.1.now ∷ []) }
 {
     match (operands.before, operands.behind) {
         ([one, two], []) | ([one], [two]) | ([], [one, two]) => Some((one.as_str(), two.as_str())),
@@ -131,7 +133,8 @@ fn two_of(operands: Operands<'_>) -> Option<(&str, &str)>
 #[tactic(auto, using(crate::proofs::WordSteps::two_alone))]
 fn key_operands(operands: Operands<'_>) -> Option<KeyOperands<'_>>
     ensures fits { IfSome result (λ k. length k.key.now < 2 ^ 16) }
-    ensures read { MatchOption result (key_words (all_of operands.entry) ≡ None) (λ k. key_words (all_of operands.entry) ≡ Some (key_said k)) }
+    ensures read { MatchOption result (key_words (all_of operands.entry) ≡ None) (λ k.
+        key_words (all_of operands.entry) ≡ Some (key_said k)) }
 {
     let (file, word) = two_of(operands)?;
     let key = word.as_bytes();
@@ -145,7 +148,8 @@ fn key_operands(operands: Operands<'_>) -> Option<KeyOperands<'_>>
 /// Three operands, of any bytes.
 #[tactic(auto, using(crate::proofs::WordSteps::length_all))]
 fn three_of(operands: Operands<'_>) -> Option<SetOperands<'_>>
-    ensures { MatchOption result (length (all_of operands.entry) ≢ 3) (λ s. all_of operands.entry ≡ s.file.now ∷ s.key.now ∷ s.value.now ∷ []) }
+    ensures { MatchOption result (length (all_of operands.entry) ≢ 3) (λ s.
+        all_of operands.entry ≡ s.file.now ∷ s.key.now ∷ s.value.now ∷ []) }
 {
     match (operands.before, operands.behind) {
         ([file, key, value], [])
@@ -163,8 +167,10 @@ fn three_of(operands: Operands<'_>) -> Option<SetOperands<'_>>
 /// The operands of `set`.
 #[tactic(auto, using(crate::proofs::WordSteps::three_alone))]
 fn set_operands(operands: Operands<'_>) -> Option<SetOperands<'_>>
-    ensures fits { IfSome result (λ s. (length s.key.now < 2 ^ 16) × (length s.value.now ≤ 16777215)) }
-    ensures read { MatchOption result (set_words (all_of operands.entry) ≡ None) (λ s. set_words (all_of operands.entry) ≡ Some (set_said s)) }
+    ensures fits { IfSome result (λ s. (length s.key.now < 2 ^ 16)
+        × (length s.value.now ≤ 16777215)) }
+    ensures read { MatchOption result (set_words (all_of operands.entry) ≡ None) (λ s.
+        set_words (all_of operands.entry) ≡ Some (set_said s)) }
 {
     let asked = three_of(operands)?;
     if is_hash_name(asked.file.as_bytes()) && is_key(asked.key) && is_value(asked.value) {
@@ -178,7 +184,8 @@ fn set_operands(operands: Operands<'_>) -> Option<SetOperands<'_>>
 #[tactic(auto, using(crate::proofs::WordSteps::names_alone))]
 fn restore_operands(operands: Operands<'_>) -> Option<RestoreOperands<'_>>
     ensures differ { IfSome result (λ r. r.from.now ≢ r.to.now) }
-    ensures read { MatchOption result (restore_words (all_of operands.entry) ≡ None) (λ r. restore_words (all_of operands.entry) ≡ Some (restore_said r)) }
+    ensures read { MatchOption result (restore_words (all_of operands.entry) ≡ None) (λ r.
+        restore_words (all_of operands.entry) ≡ Some (restore_said r)) }
 {
     let (from, to) = two_of(operands)?;
     if is_hash_name(from.as_bytes()) && is_hash_name(to.as_bytes()) && from != to {
@@ -191,7 +198,8 @@ fn restore_operands(operands: Operands<'_>) -> Option<RestoreOperands<'_>>
 /// Reads the words of a command.
 pub(crate) fn read_words(words: &[String]) -> Option<Asked<'_>>
     ensures fits { IfSome result IsWithin }
-    ensures read { MatchOption result (command_of (words_of words.now) ≡ None) (λ a. command_of (words_of words.now) ≡ Some (said a)) }
+    ensures read { MatchOption result (command_of (words_of words.now) ≡ None) (λ a.
+        command_of (words_of words.now) ≡ Some (said a)) }
 {
     let (command, words) = words.split_first()?;
     let operands = operands_of(words)?;
