@@ -26,14 +26,14 @@ use Rattle.tk_block.specs.Layout.{Placed, newest, laid, end_of, texts, links_of,
 use Rattle.tk_block.proofs.Bodies.{two_true, joined_front}
 use Rattle.tk_block.proofs.Grammar.{static_found, closing_found}
 use Rattle.tk_block.proofs.Layouts.{laid-append}
-use Rattle.tk_append.specs.Log.{AreGroups, AllIn, AllHome, blocks_of, closed_text}
+use Rattle.tk_append.specs.Log.{AreGroups, AllIn, AllInItsShard, blocks_of, closed_text}
 use Rattle.tk_append.specs.OpeningLaws.{IsClosedFile, OpensOnlyClosed}
 use Rattle.tk_model.specs.Entries.{is_in_shard, holds_key}
-use Rattle.tk_append.specs.Opening.{Walk, Outcome, FailsAt, Ends, walk, is_home, change_in, records_in, broken_unless, broken_at, place_in, head_fault, count_fault, end_fault, closing_fault, static_fault, first_fault}
+use Rattle.tk_append.specs.Opening.{Walk, Outcome, FailsAt, Ends, walk, is_in_its_shard, change_in, records_in, broken_unless, broken_at, place_in, head_fault, count_fault, end_fault, closing_fault, static_fault, first_fault}
 use Rattle.tk_append.specs.Checked.{IsFound, IsClosed}
 use Rattle.tk_append.specs.declared.check.Found.{Found}
 use Rattle.tk_append.proofs.Groupings.{IsPart, part_bodies, groups_upto}
-use Rattle.tk_append.proofs.Walks.{AreBytes, bytes_drop, AllAtHome, file_grouped}
+use Rattle.tk_append.proofs.Walks.{AreBytes, bytes_drop, AllBodiesInShard, file_grouped}
 
 unless : (t : Bool) (place : ℕ) (next : Option OpenError) → broken_unless t place next ≡ None → (t ≡ true) × (next ≡ None)
 unless true place next is = (refl, is)
@@ -176,23 +176,23 @@ no_part : (least : ℕ) (open_group : Option Placed) (number : ℕ) (part : List
 no_part least None number part is rest = rest
 no_part least (Some x) number part is rest = absurd (cc is)
 
-home_split : (h : StaticHead) (shard : ShardOf) (xs ys : List Body) → AllAtHome h shard (xs ++ ys) → AllAtHome h shard xs × AllAtHome h shard ys
+home_split : (h : StaticHead) (shard : ShardOf) (xs ys : List Body) → AllBodiesInShard h shard (xs ++ ys) → AllBodiesInShard h shard xs × AllBodiesInShard h shard ys
 home_split h shard [] ys all = (tt, all)
 home_split h shard (x ∷ xs) ys all = let more = home_split h shard xs ys all.1 in ((all.0, more.0), more.1)
 
 home_key : (h : StaticHead) (shard : ShardOf) (k : List ℕ) → h.kind ≡ 1 → (not (h.kind == 1) || false || holds_key shard k) ≡ true → holds_key shard k ≡ true
 home_key h shard k one here = subst (λ (n : ℕ). (not (n == 1) || false || holds_key shard k) ≡ true) one here
 
-home_change : (h : StaticHead) (shard : ShardOf) (n : ℕ) (c : Change) (last : Bool) → h.kind ≡ 1 → is_home h shard (body_of n c last) ≡ true → is_in_shard shard c ≡ true
+home_change : (h : StaticHead) (shard : ShardOf) (n : ℕ) (c : Change) (last : Bool) → h.kind ≡ 1 → is_in_its_shard h shard (body_of n c last) ≡ true → is_in_shard shard c ≡ true
 home_change h shard n (Put p) last one here = home_key h shard p.key one here
 home_change h shard n (Drop k) last one here = home_key h shard k one here
 home_change h shard n Clear last one here = refl
 
-home_changes : (h : StaticHead) (shard : ShardOf) (n : ℕ) (cs : List Change) → h.kind ≡ 1 → AllAtHome h shard (group_bodies n cs) → AllIn shard cs
+home_changes : (h : StaticHead) (shard : ShardOf) (n : ℕ) (cs : List Change) → h.kind ≡ 1 → AllBodiesInShard h shard (group_bodies n cs) → AllIn shard cs
 home_changes h shard n [] one all = tt
 home_changes h shard n (c ∷ cs) one all = (home_change h shard n c (is_nil cs) one all.0, home_changes h shard n cs one all.1)
 
-home_groups : (h : StaticHead) (shard : ShardOf) (gs : List Group) → AllAtHome h shard (bodies_of gs) → h.kind ≡ 1 → AllHome shard gs
+home_groups : (h : StaticHead) (shard : ShardOf) (gs : List Group) → AllBodiesInShard h shard (bodies_of gs) → h.kind ≡ 1 → AllInItsShard shard gs
 home_groups h shard [] all one = tt
 home_groups h shard (g ∷ gs) all one =
     let parts = home_split h shard (group_bodies g.number g.changes) (bodies_of gs) all in
@@ -205,7 +205,7 @@ record Made (shard : ShardOf) (f : List ℕ) (h : StaticHead) (c : Closing) (w :
   blocks : w.blocks ≡ blocks_of h groups
   records : records_in w.blocks ≡ replay Hash groups []
   end : c.size ≡ end_of (base_of h.p) (bodies_of groups)
-  home : h.kind ≡ 1 → AllHome shard groups
+  in_its_shard : h.kind ≡ 1 → AllInItsShard shard groups
   text : f ≡ closed_text h groups c.next
 
 made : (kinds : List ℕ) (writable : Bool) (shard : ShardOf) (f : List ℕ) (h : StaticHead) (c : Closing) (w : Walk) → AreBytes f → static_at f ≡ Some h → closing_at (drop 32 f) ≡ Some c → walk h shard f ≡ Ends w
@@ -224,7 +224,7 @@ made kinds writable shard f h c w are head closing ends whole s =
       blocks = blocks;
       records = records;
       end = end;
-      home = home_groups h shard groups (subst (AllAtHome h shard) bodies g.home);
+      in_its_shard = home_groups h shard groups (subst (AllBodiesInShard h shard) bodies g.in_its_shard);
       text =
           whole_text h f groups c head closing end
           (subst (λ (l : List Placed). take (8 * 2 ^ h.p) (drop 64 f) ≡ heads_text h.p l) blocks (heads_stand_all h.p w.blocks f are s.long s.heads))
@@ -250,7 +250,7 @@ closed_is kinds writable shard f found are none is =
       bound = (closing_found (drop 32 f) c is.closing).0.0;
       text = m.text;
       kind = s.kind;
-      home = m.home;
+      in_its_shard = m.in_its_shard;
       last = s.last;
     }
 
@@ -282,7 +282,7 @@ all_read kinds writable shard f h c w are head closing ends none =
         generation = (static_found f h head).0.1;
         kind = s.kind;
         legal = m.legal;
-        home = m.home;
+        in_its_shard = m.in_its_shard;
         size = subst (λ (n : ℕ). n < 2 ^ 64) m.end fits.0;
         number = fits.2;
         last = s.last;

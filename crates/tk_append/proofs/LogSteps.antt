@@ -18,7 +18,7 @@ use Rattle.tk_block.specs.Renumber.{IsGroupText, Renumbered}
 use Rattle.tk_block.proofs.Layouts.{end_of-append, laid-append, links_of-append, length-links_of, texts-append-both, bodies_of-append, end_of-renumbered}
 use Rattle.tk_append.specs.declared.log.GroupLog.{GroupLog}
 use Rattle.tk_append.specs.Log.{HasGroups, blocks_of}
-use Rattle.tk_append.specs.LogParts.{IsReady}
+use Rattle.tk_append.specs.LogParts.{IsReservedText}
 use Rattle.tk_block.proofs.Lengths.{length-texts}
 use Rattle.tk_append.proofs.Layouts.{end_of-least}
 
@@ -42,9 +42,9 @@ ready_text text place was number cs links fit spelled fits = record {
 }
 
 -- a ready group's text under its number
-pub text_is : {D : Type 0} (log : GroupLog D) (number : ℕ) (new : List ℕ) (cs : List Change) (links : List ℕ) → IsReady log cs links → Renumbered log.ready new log.end number
+pub text_is : {D : Type 0} (log : GroupLog D) (number : ℕ) (new : List ℕ) (cs : List Change) (links : List ℕ) → IsReservedText log cs links → Renumbered log.reserved_text new log.end number
     → new ≡ texts (laid log.end (group_bodies number cs)) links
-text_is log number new cs links ready again = again ready.number cs links (fit_small cs ready.fit) ready.text
+text_is log number new cs links reserved_text again = again reserved_text.number cs links (fit_small cs reserved_text.fit) reserved_text.text
 
 -- where it ends
 pub end_is : (end number : ℕ) (text : List ℕ) (cs : List Change) (links : List ℕ) → text ≡ texts (laid end (group_bodies number cs)) links → end + length text ≡ end_of end (group_bodies number cs)

@@ -14,7 +14,7 @@ use Rattle.tk_block.proofs.Lengths.{length-heads_text, length-file_text}
 use Rattle.tk_disk.specs.Crash.{Torn, Follows, Within}
 use Rattle.tk_append.proofs.Layouts.{end_of-least}
 use Rattle.tk_append.specs.Chains.{HeadsAre}
-use Rattle.tk_append.specs.Log.{HasGroups, AllHome, blocks_of, closed_text}
+use Rattle.tk_append.specs.Log.{HasGroups, AllInItsShard, blocks_of, closed_text}
 use Rattle.tk_model.specs.Records.{replay}
 use Rattle.tk_model.specs.declared.record.Order.TheVariants.{Hash}
 use Rattle.tk_append.specs.LogParts.{Stands, log_disk, log_head, log_end}
@@ -69,7 +69,7 @@ counted_of image disk log kinds writable shard found heads is head end same =
       count = is.closed.count;
       stands = log_stands image (image disk) log kinds writable shard found heads.items is head end same;
       heads_are = subst (λ (h : StaticHead). HeadsAre h.p heads.items (blocks_of h groups)) (sym head) is.heads_are;
-      home = subst (λ (h : StaticHead). h.kind ≡ 1 → AllHome shard groups) (sym head) is.closed.home;
+      in_its_shard = subst (λ (h : StaticHead). h.kind ≡ 1 → AllInItsShard shard groups) (sym head) is.closed.in_its_shard;
       text = if_some (image disk) (λ f. f ≡ is.bytes) (λ f. f ≡ closed_text (log_head log) groups next) is.told
           (λ f same_bytes. same_bytes ∙ is.closed.text ∙ ap (λ (h : StaticHead). closed_text h groups next) (sym head));
       size = if_some (image disk) (λ f. f ≡ is.bytes) (λ f. length f < 2 ^ 64) is.told

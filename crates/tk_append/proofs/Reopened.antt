@@ -31,8 +31,8 @@ use Rattle.tk_block.proofs.Grammar.{statics, closings, length-static_text, lengt
 use Rattle.tk_block.proofs.BlockReads.{block_head, block_body, block_link, block_padding, block_rest, change_fits}
 use Rattle.tk_block.proofs.Lengths.{length-block_text, length-heads_below, length-file_text}
 use Rattle.tk_block.proofs.Layouts.{newest-append, length-laid}
-use Rattle.tk_append.specs.Log.{AreGroups, AllIn, AllHome, blocks_of, closed_text}
-use Rattle.tk_append.specs.Opening.{Walk, Outcome, Ends, begin, walk, walk_on, walked, may_stand, is_in_turn, is_home, is_padded, opened_by, records_in, broken_unless, broken_at, place_in, head_fault, count_fault, end_fault, closing_fault, static_fault, first_fault}
+use Rattle.tk_append.specs.Log.{AreGroups, AllIn, AllInItsShard, blocks_of, closed_text}
+use Rattle.tk_append.specs.Opening.{Walk, Outcome, Ends, begin, walk, walk_on, walked, may_stand, is_in_turn, is_in_its_shard, is_padded, opened_by, records_in, broken_unless, broken_at, place_in, head_fault, count_fault, end_fault, closing_fault, static_fault, first_fault}
 use Rattle.tk_append.specs.OpeningLaws.{OpensClosed}
 use Rattle.tk_append.specs.Walked.{MayFollow}
 use Rattle.tk_append.proofs.Layouts.{end_of-least}
@@ -44,7 +44,7 @@ use Rattle.tk_append.proofs.ClosedFiles.{changes_of, replayed}
 abbrev pub Fit : (next : ℕ) (h : StaticHead) (shard : ShardOf) (least : ℕ) (open_group : Option Placed) (place : ℕ) → List Body → Type 0
 Fit next h shard least open_group place [] = (open_group ≡ None) × (least ≤ next)
 Fit next h shard least open_group place (b ∷ bs) =
-    FitsBody b × (not (b.kind == 3) ≡ true) × (is_in_turn least open_group b ≡ true) × (is_home h shard b ≡ true)
+    FitsBody b × (not (b.kind == 3) ≡ true) × (is_in_turn least open_group b ≡ true) × (is_in_its_shard h shard b ≡ true)
     × Fit next h shard (cond b.last (b.number + 1) least) (opened_by open_group (record { place = place; body = b })) (place + extent_of b) bs
 
 small_one : (c : Change) → AllFit (c ∷ []) → IsSmall (key_of c) (value_of c)
@@ -76,12 +76,12 @@ or_true : (t : Bool) → (t || true) ≡ true
 or_true true = refl
 or_true false = refl
 
-at_home : (h : StaticHead) (shard : ShardOf) (n : ℕ) (c : Change) (last : Bool) → is_in_shard shard c ≡ true → is_home h shard (body_of n c last) ≡ true
+at_home : (h : StaticHead) (shard : ShardOf) (n : ℕ) (c : Change) (last : Bool) → is_in_shard shard c ≡ true → is_in_its_shard h shard (body_of n c last) ≡ true
 at_home h shard n (Put p) last here = rw here (or_true (not (h.kind == 1) || false))
 at_home h shard n (Drop k) last here = rw here (or_true (not (h.kind == 1) || false))
 at_home h shard n Clear last here = grind arith
 
-home_of : (h : StaticHead) (shard : ShardOf) (n : ℕ) (c : Change) (last : Bool) → (h.kind ≡ 1 → is_in_shard shard c ≡ true) → is_home h shard (body_of n c last) ≡ true
+home_of : (h : StaticHead) (shard : ShardOf) (n : ℕ) (c : Change) (last : Bool) → (h.kind ≡ 1 → is_in_shard shard c ≡ true) → is_in_its_shard h shard (body_of n c last) ≡ true
 home_of h shard n c last here = elim (cases_eq h.kind 1) [
   | inl e ↦ at_home h shard n c last (here e)
   | inr ne ↦ ap (λ (t : Bool). not t || (kind_of c == 4) || holds_key shard (key_of c)) (ne_eqb _ _ ne)
@@ -105,43 +105,43 @@ module _ (next : ℕ) (h : StaticHead) (shard : ShardOf) where
   -- the rest of a group, then other bodies
   fit_rest : (least n place : ℕ) (x : Placed) (c : Change) (cs : List Change) (rest : List Body) → x.body.number ≡ n → n < 2 ^ 64 → AllFit (c ∷ cs) → HasNoClear (c ∷ cs) → (h.kind ≡ 1 → AllIn shard (c ∷ cs))
       → Fit next h shard (n + 1) None (end_of place (group_bodies n (c ∷ cs))) rest → Fit next h shard least (Some x) place (group_bodies n (c ∷ cs) ++ rest)
-  fit_rest least n place x c [] rest is small fit none home more =
-      (change_fits n c true (small_one c fit) small, no_void c, turn_next least n c true x is (no_clear_head c [] none).0, home_of h shard n c true (λ e. (home e).0), more)
-  fit_rest least n place x c (d ∷ cs) rest is small fit none home more =
+  fit_rest least n place x c [] rest is small fit none in_its_shard more =
+      (change_fits n c true (small_one c fit) small, no_void c, turn_next least n c true x is (no_clear_head c [] none).0, home_of h shard n c true (λ e. (in_its_shard e).0), more)
+  fit_rest least n place x c (d ∷ cs) rest is small fit none in_its_shard more =
       let f = fit_head c (d ∷ cs) fit in
       let k = no_clear_head c (d ∷ cs) none in (
         change_fits n c false (small_one c f.0) small,
         no_void c,
         turn_next least n c false x is k.0,
-        home_of h shard n c false (λ e. (home e).0),
-        fit_rest least n (place + extent_of (body_of n c false)) x d cs rest is small f.1 k.1 (λ e. (home e).1) more,
+        home_of h shard n c false (λ e. (in_its_shard e).0),
+        fit_rest least n (place + extent_of (body_of n c false)) x d cs rest is small f.1 k.1 (λ e. (in_its_shard e).1) more,
       )
 
   -- a group, then other bodies
   fit_group : (least n place : ℕ) (c : Change) (cs : List Change) (rest : List Body) → least ≤ n → n < 2 ^ 64 → AllFit (c ∷ cs) → IsClearAlone (c ∷ cs) → (h.kind ≡ 1 → AllIn shard (c ∷ cs))
       → Fit next h shard (n + 1) None (end_of place (group_bodies n (c ∷ cs))) rest → Fit next h shard least None place (group_bodies n (c ∷ cs) ++ rest)
-  fit_group least n place c [] rest most small fit one home more =
-      (change_fits n c true (small_one c fit) small, no_void c, turn_first least n c true most (or_true (not (kind_of c == 4))), home_of h shard n c true (λ e. (home e).0), more)
-  fit_group least n place c (d ∷ cs) rest most small fit one home more =
+  fit_group least n place c [] rest most small fit one in_its_shard more =
+      (change_fits n c true (small_one c fit) small, no_void c, turn_first least n c true most (or_true (not (kind_of c == 4))), home_of h shard n c true (λ e. (in_its_shard e).0), more)
+  fit_group least n place c (d ∷ cs) rest most small fit one in_its_shard more =
       let f = fit_head c (d ∷ cs) fit in
       let k = no_clear_head c (d ∷ cs) (clear_alone c d cs one) in (
         change_fits n c false (small_one c f.0) small,
         no_void c,
         turn_first least n c false most (left_true _ k.0),
-        home_of h shard n c false (λ e. (home e).0),
-        fit_rest least n (place + extent_of (body_of n c false)) (record { place = place; body = body_of n c false }) d cs rest refl small f.1 k.1 (λ e. (home e).1) more,
+        home_of h shard n c false (λ e. (in_its_shard e).0),
+        fit_rest least n (place + extent_of (body_of n c false)) (record { place = place; body = body_of n c false }) d cs rest refl small f.1 k.1 (λ e. (in_its_shard e).1) more,
       )
 
   fit_some : (least n place : ℕ) (cs : List Change) (rest : List Body) → cs ≢ [] → least ≤ n → n < 2 ^ 64 → AllFit cs → IsClearAlone cs → (h.kind ≡ 1 → AllIn shard cs)
       → Fit next h shard (n + 1) None (end_of place (group_bodies n cs)) rest → Fit next h shard least None place (group_bodies n cs ++ rest)
-  fit_some least n place [] rest some most small fit one home more = absurd (some refl)
-  fit_some least n place (c ∷ cs) rest some most small fit one home more = fit_group least n place c cs rest most small fit one home more
+  fit_some least n place [] rest some most small fit one in_its_shard more = absurd (some refl)
+  fit_some least n place (c ∷ cs) rest some most small fit one in_its_shard more = fit_group least n place c cs rest most small fit one in_its_shard more
 
-  pub fit_groups : (lo place : ℕ) (gs : List Group) → next ≤ 2 ^ 64 → AreGroups lo next gs → (h.kind ≡ 1 → AllHome shard gs) → Fit next h shard lo None place (bodies_of gs)
-  fit_groups lo place [] small legal home = (refl, legal)
-  fit_groups lo place (g ∷ gs) small legal home =
-      fit_some lo g.number place g.changes (bodies_of gs) legal.1 legal.0 (omega (arith, least_upto next (g.number + 1) gs legal.4)) legal.2 legal.3 (λ e. (home e).0)
-      (fit_groups (g.number + 1) (end_of place (group_bodies g.number g.changes)) gs small legal.4 (λ e. (home e).1))
+  pub fit_groups : (lo place : ℕ) (gs : List Group) → next ≤ 2 ^ 64 → AreGroups lo next gs → (h.kind ≡ 1 → AllInItsShard shard gs) → Fit next h shard lo None place (bodies_of gs)
+  fit_groups lo place [] small legal in_its_shard = (refl, legal)
+  fit_groups lo place (g ∷ gs) small legal in_its_shard =
+      fit_some lo g.number place g.changes (bodies_of gs) legal.1 legal.0 (omega (arith, least_upto next (g.number + 1) gs legal.4)) legal.2 legal.3 (λ e. (in_its_shard e).0)
+      (fit_groups (g.number + 1) (end_of place (group_bodies g.number g.changes)) gs small legal.4 (λ e. (in_its_shard e).1))
 
 by_tests : (s t : Bool) (found place m : ℕ) → found < m → place < m → cond s 0 (cond t place found) < m
 by_tests true t found place m below here = omega arith
@@ -165,13 +165,13 @@ newest_more : (p k m : ℕ) (blocks : List Placed) (x : Placed) → newest p k 0
 newest_more p k m blocks x below here =
     subst (λ (n : ℕ). n < m) (sym (newest-append p k 0 blocks (x ∷ []))) (renewed_small p k (newest p k 0 blocks) m x below here)
 
-may_stand_there : (h : StaticHead) (shard : ShardOf) (w : Walk) (place link : ℕ) (b : Body) (rest : List ℕ) → not (b.kind == 3) ≡ true → is_in_turn w.least w.open_group b ≡ true → is_home h shard b ≡ true
+may_stand_there : (h : StaticHead) (shard : ShardOf) (w : Walk) (place link : ℕ) (b : Body) (rest : List ℕ) → not (b.kind == 3) ≡ true → is_in_turn w.least w.open_group b ≡ true → is_in_its_shard h shard b ≡ true
     → may_stand h shard w (block_text b place link ++ rest) (extent_of b) b ≡ true
-may_stand_there h shard w place link b rest other turn home =
+may_stand_there h shard w place link b rest other turn in_its_shard =
     let bytes = block_text b place link ++ rest in
     let within : nat_le (extent_of b) (length bytes) ≡ true = le-leb _ _ (omega (arith, length-append (block_text b place link) rest, length-block_text b place link)) in
     let padding : is_padded bytes (extent_of b) b ≡ true = (bytes_eq-Decides _ _).1 (block_padding b place link rest) in
-    all_six _ _ _ _ _ _ within (eq-eqb (extent_of b) (extent_of b) refl) other padding turn home
+    all_six _ _ _ _ _ _ within (eq-eqb (extent_of b) (extent_of b) refl) other padding turn in_its_shard
 
 -- a walk over the text of bodies
 record Reread (next : ℕ) (h : StaticHead) (shard : ShardOf) (n : ℕ) (w : Walk) (place : ℕ) (bs : List Body) : Type 0 where
@@ -336,7 +336,7 @@ opens_closed kinds writable shard h groups next m =
     let head : static_at f ≡ Some h = ap static_at parts ∙ statics.again h _ (m.head, m.generation) in
     let closing : closing_at (drop 32 f) ≡ Some c =
     ap (λ (l : List ℕ). closing_at (drop 32 l)) parts ∙ ap closing_at (drop_at (static_text h) (closing_text c ++ (heads ++ rest)) 32 (length-static_text h)) ∙ closings.again c _ (m.size, few, m.number) in
-    let v = walk_texts next h shard (length f) begin base bs (omega (arith, long, count_upto base bs)) (fit_groups next h shard 0 base groups (omega (arith, m.number)) m.legal m.home) m.size (λ k. omega arith) in
+    let v = walk_texts next h shard (length f) begin base bs (omega (arith, long, count_upto base bs)) (fit_groups next h shard 0 base groups (omega (arith, m.number)) m.legal m.in_its_shard) m.size (λ k. omega arith) in
     let small : (k : ℕ) → newest h.p k 0 blocks < 2 ^ 64 = λ k. newest_laid h.p k 0 base (2 ^ 64) bs (omega arith) (omega (arith, m.size)) in
     let stand : head_fault h.p blocks f (2 ^ h.p) 0 ≡ None =
     heads_right h.p blocks f (2 ^ h.p) 0 (λ k below. ap (λ (l : List ℕ). u64_in l (64 + 8 * k)) fronted ∙ head_read h.p k blocks (static_text h ++ closing_text c) rest front_long (omega arith) (small k)) in

@@ -10,7 +10,7 @@ use Rattle.tk_model.specs.declared.record.Group.{Group}
 use Rattle.tk_block.specs.declared.block.Body.{Body}
 use Rattle.tk_block.specs.declared.head.StaticHead.{StaticHead}
 use Rattle.tk_block.specs.Text.{head_at, base_of}
-use Rattle.tk_block.specs.Blocks.{body_at, is_body, said}
+use Rattle.tk_block.specs.Blocks.{body_at, is_body, body_said}
 use Rattle.tk_block.specs.Layout.{Placed}
 use Rattle.tk_block.specs.Grammar.{FitsExtent}
 use Rattle.tk_block.proofs.Grammar.{heads}
@@ -151,10 +151,10 @@ stops_none h f place reading here none upto =
     stops upto.most h f place reading upto.w here upto.knows upto.enough upto.rest (λ n. none_read n upto.w place (drop place f) (subst (NoneThere place) (rest_of place f) none))
 
 pub stops_refused : (h : StaticHead) (f : List ℕ) (place : ℕ) (reading : Reading) (s : Standing) → place < length f → IsThere place (take (length f - place) (drop place f)) s
-    → ((w : Walk) → Knows reading w → may_be_read w s.extent (said s.block) ≡ false) → ReadUpto h f place reading → ReadUpto h f (length f) reading
+    → ((w : Walk) → Knows reading w → may_be_read w s.extent (body_said s.block) ≡ false) → ReadUpto h f place reading → ReadUpto h f (length f) reading
 stops_refused h f place reading s here block may upto =
     let at : IsThere place (drop place f) s = subst (λ (l : List ℕ). IsThere place l s) (rest_of place f) block in
-    stops upto.most h f place reading upto.w here upto.knows upto.enough upto.rest (λ n. refused n upto.w place s.extent (drop place f) (said s.block) at.head at.body (may upto.w upto.knows))
+    stops upto.most h f place reading upto.w here upto.knows upto.enough upto.rest (λ n. refused n upto.w place s.extent (drop place f) (body_said s.block) at.head at.body (may upto.w upto.knows))
 
 pub extent_valid : (e : ℕ) → FitsExtent e → 0 < e
 extent_valid e fits = grind (arith, nat_tests)
@@ -196,11 +196,11 @@ goes_on (suc n) h f place e next b new w here enough rest head body may knows is
     ]
 
 pub reads_on : (h : StaticHead) (f : List ℕ) (place next : ℕ) (old new : Reading) (s : Standing) → place < length f → IsThere place (take (length f - place) (drop place f)) s
-    → ((w : Walk) → Knows old w → may_be_read w s.extent (said s.block) ≡ true) → ((w : Walk) → Knows old w → Knows new (walked w (record { place = place; body = said s.block })))
+    → ((w : Walk) → Knows old w → may_be_read w s.extent (body_said s.block) ≡ true) → ((w : Walk) → Knows old w → Knows new (walked w (record { place = place; body = body_said s.block })))
     → next ≡ place + min s.extent (length f - place) → ReadUpto h f place old → ReadUpto h f next new
 reads_on h f place next old new s here block may more is upto =
     let at : IsThere place (drop place f) s = subst (λ (l : List ℕ). IsThere place l s) (rest_of place f) block in
-    goes_on upto.most h f place s.extent next (said s.block) new upto.w here upto.enough upto.rest at.head at.body (may upto.w upto.knows) (more upto.w upto.knows) is
+    goes_on upto.most h f place s.extent next (body_said s.block) new upto.w here upto.enough upto.rest at.head at.body (may upto.w upto.knows) (more upto.w upto.knows) is
 
 pub upto_first : (h : StaticHead) (f : List ℕ) (place : ℕ) (reading : Reading) → place ≡ base_of h.p → Knows reading begin → ReadUpto h f place reading
 unfolding read_blocks

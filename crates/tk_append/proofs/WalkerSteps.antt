@@ -18,8 +18,8 @@ use Rattle.tk_block.specs.declared.head.StaticHead.{StaticHead}
 use Rattle.tk_block.specs.Text.{head_at}
 use Rattle.tk_block.proofs.Bodies.{two_true}
 use Rattle.tk_block.proofs.BodyGrammar.{bodies}
-use Rattle.tk_block.specs.Blocks.{said, extent_of, body_at, check_in, is_body}
-use Rattle.tk_append.specs.Opening.{Walk, Outcome, FailsAt, Ends, walk_on, walk_block, walked, may_stand, is_padded, is_in_turn, is_home, change_in, records_in, opened_by}
+use Rattle.tk_block.specs.Blocks.{body_said, extent_of, body_at, check_in, is_body}
+use Rattle.tk_append.specs.Opening.{Walk, Outcome, FailsAt, Ends, walk_on, walk_block, walked, may_stand, is_padded, is_in_turn, is_in_its_shard, change_in, records_in, opened_by}
 use Rattle.tk_append.specs.Keys.{HasKeys}
 use Rattle.tk_append.specs.Walked.{HasNone, HasBlock, MayFollow, Fails, IsAt, NewestIn, IsOfKind, Passed, least_behind, as_open}
 
@@ -50,7 +50,7 @@ pub record Stood (h : StaticHead) (shard : ShardOf) (w : Walk) (bytes : List ℕ
   pub other : not (b.kind == 3) ≡ true
   pub padding : is_padded bytes extent b ≡ true
   pub turn : is_in_turn w.least w.open_group b ≡ true
-  pub home : is_home h shard b ≡ true
+  pub in_its_shard : is_in_its_shard h shard b ≡ true
 
 pub stood : (h : StaticHead) (shard : ShardOf) (w : Walk) (bytes : List ℕ) (extent : ℕ) (b : Body) → may_stand h shard w bytes extent b ≡ true → Stood h shard w bytes extent b
 stood h shard w bytes extent b stands =
@@ -67,7 +67,7 @@ stood h shard w bytes extent b stands =
       other = t4.1;
       padding = t3.1;
       turn = t2.1;
-      home = t1.1;
+      in_its_shard = t1.1;
     }
 
 pub value_small : (b : Body) → is_body b ≡ true → length b.value ≤ 33554431
@@ -86,16 +86,16 @@ block_is h shard w place e bytes b go head body =
     ap (λ (o : Option ℕ). walk_block h shard w place bytes o (body_at (drop 24 bytes) place) go) head ∙ ap (λ (o : Option Body). walk_block h shard w place bytes (Some e) o go) body
 
 -- a block that may not stand there
-pub fails_stand : (h : StaticHead) (shard : ShardOf) (w : Walk) (place : ℕ) (bytes : List ℕ) (s : FoundBlock) → HasBlock place bytes s → may_stand h shard w bytes s.extent (said s.block) ≡ false
+pub fails_stand : (h : StaticHead) (shard : ShardOf) (w : Walk) (place : ℕ) (bytes : List ℕ) (s : FoundBlock) → HasBlock place bytes s → may_stand h shard w bytes s.extent (body_said s.block) ≡ false
     → Fails h shard w place bytes (BrokenAt place)
 fails_stand h shard w place bytes s has not_so go =
-    block_is h shard w place s.extent bytes (said s.block) go has.head has.body ∙ rw not_so refl
+    block_is h shard w place s.extent bytes (body_said s.block) go has.head has.body ∙ rw not_so refl
 
 -- a block with another link
-pub fails_link : (h : StaticHead) (shard : ShardOf) (w : Walk) (place : ℕ) (bytes : List ℕ) (s : FoundBlock) → HasBlock place bytes s → may_stand h shard w bytes s.extent (said s.block) ≡ true
-    → (u64_in bytes 16 == link_of h.p w.blocks (said s.block)) ≡ false → Fails h shard w place bytes (BrokenAt (place + 16))
+pub fails_link : (h : StaticHead) (shard : ShardOf) (w : Walk) (place : ℕ) (bytes : List ℕ) (s : FoundBlock) → HasBlock place bytes s → may_stand h shard w bytes s.extent (body_said s.block) ≡ true
+    → (u64_in bytes 16 == link_of h.p w.blocks (body_said s.block)) ≡ false → Fails h shard w place bytes (BrokenAt (place + 16))
 fails_link h shard w place bytes s has so other go =
-    block_is h shard w place s.extent bytes (said s.block) go has.head has.body ∙ rw (so, other) refl
+    block_is h shard w place s.extent bytes (body_said s.block) go has.head has.body ∙ rw (so, other) refl
 
 -- a block that follows
 pub goes_on : (h : StaticHead) (shard : ShardOf) (w : Walk) (place e : ℕ) (bytes : List ℕ) (b : Body) (go : Walk → ℕ → Outcome) → MayFollow h shard w place bytes e b

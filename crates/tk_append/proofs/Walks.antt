@@ -15,7 +15,7 @@ use Rattle.tk_block.specs.Layout.{Placed, laid, end_of, texts, links_of, link_of
 use Rattle.tk_block.proofs.BodyGrammar.{bodies}
 use Rattle.tk_block.proofs.BlockReads.{block_spelled}
 use Rattle.tk_block.proofs.Layouts.{laid-append, end_of-append, links_of-append, texts-append-both, length-links_of}
-use Rattle.tk_append.specs.Opening.{Walk, Outcome, FailsAt, Ends, begin, walk, walk_on, walk_block, walked, may_stand, is_home}
+use Rattle.tk_append.specs.Opening.{Walk, Outcome, FailsAt, Ends, begin, walk, walk_on, walk_block, walked, may_stand, is_in_its_shard}
 use Rattle.tk_append.specs.Walked.{MayFollow}
 use Rattle.tk_append.proofs.WalkerSteps.{stood, of_kind}
 use Rattle.tk_append.proofs.Groupings.{Parted, parted_more}
@@ -27,11 +27,11 @@ pub bytes_drop : (n : ℕ) (f : List ℕ) → AreBytes f → AreBytes (drop n f)
 bytes_drop n f are i = rw (get_or-drop n f i 0) (are (n + i))
 
 -- the keys of these bodies belong to this file of a set
-abbrev pub AllAtHome : StaticHead → ShardOf → List Body → Type 0
-AllAtHome h shard [] = Unit {0}
-AllAtHome h shard (b ∷ bs) = (is_home h shard b ≡ true) × AllAtHome h shard bs
+abbrev pub AllBodiesInShard : StaticHead → ShardOf → List Body → Type 0
+AllBodiesInShard h shard [] = Unit {0}
+AllBodiesInShard h shard (b ∷ bs) = (is_in_its_shard h shard b ≡ true) × AllBodiesInShard h shard bs
 
-home_more : (h : StaticHead) (shard : ShardOf) (bs : List Body) (b : Body) → AllAtHome h shard bs → is_home h shard b ≡ true → AllAtHome h shard (bs ++ b ∷ [])
+home_more : (h : StaticHead) (shard : ShardOf) (bs : List Body) (b : Body) → AllBodiesInShard h shard bs → is_in_its_shard h shard b ≡ true → AllBodiesInShard h shard (bs ++ b ∷ [])
 home_more h shard [] b all one = (one, tt)
 home_more h shard (c ∷ bs) b all one = (all.0, home_more h shard bs b all.1 one)
 
@@ -42,7 +42,7 @@ pub record Grouped (h : StaticHead) (shard : ShardOf) (place : ℕ) (front : Lis
   pub end : place ≡ end_of (base_of h.p) bodies
   pub text : front ≡ texts w.blocks (links_of h.p [] w.blocks)
   pub parted : Parted bodies w.least w.open_group
-  pub home : AllAtHome h shard bodies
+  pub in_its_shard : AllBodiesInShard h shard bodies
 
 -- the text of a block that follows
 follows_text : (h : StaticHead) (shard : ShardOf) (w : Walk) (place e : ℕ) (bytes : List ℕ) (b : Body) → AreBytes bytes → MayFollow h shard w place bytes e b → take e bytes ≡ block_text b place (link_of h.p w.blocks b)
@@ -80,7 +80,7 @@ grouped_more h shard w place e front bytes b are f g =
           ∙ ap (λ (l : List ℕ). texts w.blocks (links_of h.p [] w.blocks) ++ l) (follows_text h shard w place e bytes b are f)
           ∙ sym (texts_more h.p w.blocks x);
       parted = parted_more g.bodies w.least w.open_group b place g.parted fits (of_kind bytes e h shard w b fits.0 f.stands) s.turn;
-      home = home_more h shard g.bodies b g.home s.home;
+      in_its_shard = home_more h shard g.bodies b g.in_its_shard s.in_its_shard;
     }
 
 -- where a walk ends behind a block, the block follows
@@ -137,6 +137,6 @@ walk_grouped (suc n) h shard w place front (x ∷ xs) v are ends g =
 pub file_grouped : (h : StaticHead) (shard : ShardOf) (f : List ℕ) (v : Walk) → AreBytes f → base_of h.p ≤ length f → walk h shard f ≡ Ends v → Grouped h shard (length f) (drop (base_of h.p) f) v
 unfolding walk
 file_grouped h shard f v are long ends =
-    let first : Grouped h shard (base_of h.p) [] begin = record { bodies = []; blocks = refl; end = refl; text = refl; parted = record { groups = []; part = []; number = 0; bodies_are = refl; legal = omega arith; rest = refl }; home = tt } in
+    let first : Grouped h shard (base_of h.p) [] begin = record { bodies = []; blocks = refl; end = refl; text = refl; parted = record { groups = []; part = []; number = 0; bodies_are = refl; legal = omega arith; rest = refl }; in_its_shard = tt } in
     let all = walk_grouped (length f) h shard begin (base_of h.p) [] (drop (base_of h.p) f) v (bytes_drop (base_of h.p) f are) ends first in
     subst (λ (k : ℕ). Grouped h shard k (drop (base_of h.p) f) v) (omega (arith, length-drop (base_of h.p) f)) all

@@ -12,7 +12,7 @@ use Rattle.tk_model.specs.Records.{replay}
 use Rattle.tk_model.specs.declared.record.Order.TheVariants.{Hash}
 use Rattle.tk_block.specs.declared.head.StaticHead.{StaticHead}
 use Rattle.tk_block.specs.declared.closing.Closing.{Closing}
-use Rattle.tk_append.specs.Log.{AreGroups, AllHome, closed_text}
+use Rattle.tk_append.specs.Log.{AreGroups, AllInItsShard, closed_text}
 use Rattle.tk_append.specs.Chains.{HeadsAre}
 use Rattle.tk_append.specs.Opening.{Walk, Ends, walk, head_fault, closing_fault, end_fault, first_fault}
 use Rattle.tk_append.specs.Walked.{Shows}
@@ -96,5 +96,5 @@ pub record IsClosed (kinds : List ℕ) (writable : Bool) (shard : ShardOf) (f : 
   pub bound : found.closing.size < 2 ^ 64
   pub text : f ≡ closed_text found.head groups found.closing.next
   pub kind : list_any (λ k. k == found.head.kind) kinds ≡ true
-  pub home : found.head.kind ≡ 1 → AllHome shard groups
+  pub in_its_shard : found.head.kind ≡ 1 → AllInItsShard shard groups
   pub last : writable ≡ true → found.closing.next ≤ 2 ^ 62

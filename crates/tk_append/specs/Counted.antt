@@ -6,7 +6,7 @@ use Rattle.tk_model.specs.declared.record.ShardOf.{ShardOf}
 use Rattle.tk_model.specs.declared.record.Group.{Group}
 use Rattle.tk_block.specs.Text.{is_static}
 use Rattle.tk_append.specs.Chains.{HeadsAre}
-use Rattle.tk_append.specs.Log.{AreGroups, AllHome, blocks_of, closed_text}
+use Rattle.tk_append.specs.Log.{AreGroups, AllInItsShard, blocks_of, closed_text}
 use Rattle.tk_append.specs.LogParts.{Stands, log_head}
 use Rattle.tk_append.specs.declared.read.CountedLog.{CountedLog}
 
@@ -21,6 +21,6 @@ pub record HasCounted {D : Type 0} (image : D → Option (List ℕ)) (disk : D) 
   pub count : r.count ≡ length (replay Hash groups [])
   pub stands : Stands image r.log groups
   pub heads_are : HeadsAre (log_head r.log).p r.heads.items (blocks_of (log_head r.log) groups)
-  pub home : (log_head r.log).kind ≡ 1 → AllHome shard groups
+  pub in_its_shard : (log_head r.log).kind ≡ 1 → AllInItsShard shard groups
   pub text : IfSome (image disk) (λ f. f ≡ closed_text (log_head r.log) groups r.next)
   pub size : IfSome (image disk) (λ f. length f < 2 ^ 64)

@@ -25,9 +25,9 @@ abbrev pub AllIn : ShardOf → List Change → Type 0
 AllIn shard [] = Unit {0}
 AllIn shard (c ∷ cs) = (is_in_shard shard c ≡ true) × AllIn shard cs
 
-abbrev pub AllHome : ShardOf → List Group → Type 0
-AllHome shard [] = Unit {0}
-AllHome shard (g ∷ gs) = AllIn shard g.changes × AllHome shard gs
+abbrev pub AllInItsShard : ShardOf → List Group → Type 0
+AllInItsShard shard [] = Unit {0}
+AllInItsShard shard (g ∷ gs) = AllIn shard g.changes × AllInItsShard shard gs
 
 -- the blocks of groups in a file of this header
 abbrev pub blocks_of : StaticHead → List Group → List Placed

@@ -33,10 +33,10 @@ abbrev pub open_mark : Closing
 open_mark = record { size = 0; count = 0; next = 0 }
 
 -- a group of these changes, with these links, is ready for the end
-pub record IsReady {D : Type 0} (log : GroupLog D) (changes : List Change) (links : List ℕ) : Type 0 where
+pub record IsReservedText {D : Type 0} (log : GroupLog D) (changes : List Change) (links : List ℕ) : Type 0 where
   pub number : ℕ
   pub fit : AllFit changes
-  pub text : log.ready ≡ group_text (record { number = number; changes = changes }) log.end links
+  pub text : log.reserved_text ≡ group_text (record { number = number; changes = changes }) log.end links
 
 -- the text of a group that is ready, under a number
 abbrev pub ready_text : {D : Type 0} → GroupLog D → (number : ℕ) → List Change → (links : List ℕ) → List ℕ

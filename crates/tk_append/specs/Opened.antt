@@ -3,7 +3,7 @@ use Rattle.std.specs.Prelude.{◌≡◌, ℕ, ◌<◌, ◌≤◌, ◌^◌, Bool,
 use Rattle.tk_model.specs.declared.record.ShardOf.{ShardOf}
 use Rattle.tk_model.specs.declared.record.Group.{Group}
 use Rattle.tk_block.specs.Text.{is_static}
-use Rattle.tk_append.specs.Log.{AreGroups, AllHome, closed_text}
+use Rattle.tk_append.specs.Log.{AreGroups, AllInItsShard, closed_text}
 use Rattle.tk_append.specs.LogParts.{Stands, log_head}
 use Rattle.tk_append.specs.declared.log.GroupLog.{GroupLog}
 
@@ -16,7 +16,7 @@ pub record HasOpened {D : Type 0} (image : D → Option (List ℕ)) (disk : D) (
   pub legal : AreGroups 0 next groups
   pub number : next < 2 ^ 64
   pub stands : Stands image log groups
-  pub home : (log_head log).kind ≡ 1 → AllHome shard groups
+  pub in_its_shard : (log_head log).kind ≡ 1 → AllInItsShard shard groups
   pub text : IfSome (image disk) (λ f. f ≡ closed_text (log_head log) groups next)
   pub size : IfSome (image disk) (λ f. length f < 2 ^ 64)
   pub last : writable ≡ true → next ≤ 2 ^ 62

@@ -36,8 +36,8 @@ is_in_turn least None b = nat_le least b.number && (not (b.kind == 4) || b.last)
 is_in_turn least (Some first) b = (b.number == first.body.number) && not (b.kind == 4)
 
 -- in a file of kind 1 the key of a set or remove block belongs to this file of a set
-abbrev pub is_home : StaticHead → ShardOf → Body → Bool
-is_home h shard b = not (h.kind == 1) || (b.kind == 4) || holds_key shard b.key
+abbrev pub is_in_its_shard : StaticHead → ShardOf → Body → Bool
+is_in_its_shard h shard b = not (h.kind == 1) || (b.kind == 4) || holds_key shard b.key
 
 -- the bytes behind the body, up to the extent, are zero
 abbrev pub is_padded : (bytes : List ℕ) → (extent : ℕ) → Body → Bool
@@ -46,7 +46,7 @@ is_padded bytes e b = bytes_eq (take (e - room_of b) (drop (room_of b) bytes)) (
 -- a block with this extent and body may stand at the front of these bytes: it lies within them, has the least extent, a kind that is no void, zero padding, its turn and its shard
 abbrev pub may_stand : StaticHead → ShardOf → Walk → (bytes : List ℕ) → (extent : ℕ) → Body → Bool
 may_stand h shard w bytes e b =
-    nat_le e (length bytes) && (e == extent_of b) && not (b.kind == 3) && is_padded bytes e b && is_in_turn w.least w.open_group b && is_home h shard b
+    nat_le e (length bytes) && (e == extent_of b) && not (b.kind == 3) && is_padded bytes e b && is_in_turn w.least w.open_group b && is_in_its_shard h shard b
 
 abbrev pub opened_by : Option Placed → Placed → Option Placed
 opened_by None x = if x.body.last then None else Some x

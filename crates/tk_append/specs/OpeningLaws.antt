@@ -6,7 +6,7 @@ use Rattle.tk_model.specs.declared.record.Group.{Group}
 use Rattle.tk_block.specs.Text.{is_static, base_of}
 use Rattle.tk_block.specs.Layout.{bodies_of, end_of}
 use Rattle.tk_block.specs.declared.head.StaticHead.{StaticHead}
-use Rattle.tk_append.specs.Log.{AreGroups, AllHome, closed_text}
+use Rattle.tk_append.specs.Log.{AreGroups, AllInItsShard, closed_text}
 use Rattle.tk_append.specs.Opening.{first_fault}
 
 -- a header and groups that a file can hold, of a kind that is asked for
@@ -15,7 +15,7 @@ pub record MayOpen (kinds : List ℕ) (writable : Bool) (shard : ShardOf) (h : S
   pub generation : h.generation < 2 ^ 64
   pub kind : list_any (λ k. k == h.kind) kinds ≡ true
   pub legal : AreGroups 0 next groups
-  pub home : h.kind ≡ 1 → AllHome shard groups
+  pub in_its_shard : h.kind ≡ 1 → AllInItsShard shard groups
   pub size : end_of (base_of h.p) (bodies_of groups) < 2 ^ 64
   pub number : next < 2 ^ 64
   pub last : writable ≡ true → next ≤ 2 ^ 62

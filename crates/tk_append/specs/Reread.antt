@@ -2,7 +2,7 @@
 use Rattle.std.specs.Prelude.{◌≡◌, ◌⊎◌, ℕ, ◌+◌, ◌≤◌, List, [], ◌∷◌, ◌++◌, length, drop, Some, None, option_map, if◌then◌else◌}
 use Rattle.tk_model.specs.declared.record.Change.{Change}
 use Rattle.tk_block.specs.Text.{head_at}
-use Rattle.tk_block.specs.Blocks.{IsSmall, body_at, said}
+use Rattle.tk_block.specs.Blocks.{IsSmall, body_at, body_said}
 use Rattle.tk_block.specs.Layout.{Placed}
 use Rattle.tk_block.specs.declared.head.StaticHead.{StaticHead}
 use Rattle.tk_append.specs.Opening.{Walk, change_in}
@@ -18,7 +18,7 @@ NoneThere place bytes = (head_at bytes place ≡ None) ⊎ (body_at (drop 24 byt
 -- this extent and this body stand there
 pub record IsThere (place : ℕ) (bytes : List ℕ) (s : Standing) : Type 0 where
   pub head : head_at bytes place ≡ Some s.extent
-  pub body : body_at (drop 24 bytes) place ≡ Some (said s.block)
+  pub body : body_at (drop 24 bytes) place ≡ Some (body_said s.block)
   pub small : IsSmall s.block.key.now s.block.value.now
 
 -- the changes of the group that blocks begin, behind those of one that is begun

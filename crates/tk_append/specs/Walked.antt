@@ -7,7 +7,7 @@ use Rattle.tk_model.specs.declared.error.OpenError.TheVariants as errors
 use Rattle.tk_block.specs.Number.{u64_in}
 use Rattle.std.specs.Io.{StartsWith}
 use Rattle.tk_block.specs.Text.{head_at, base_of}
-use Rattle.tk_block.specs.Blocks.{IsSmall, body_at, said}
+use Rattle.tk_block.specs.Blocks.{IsSmall, body_at, body_said}
 use Rattle.tk_block.specs.Layout.{Placed, newest, link_of}
 use Rattle.tk_block.specs.declared.block.Body.{Body}
 use Rattle.tk_block.specs.declared.head.StaticHead.{StaticHead}
@@ -66,7 +66,7 @@ HasNone place bytes =
 -- this block stands there
 pub record HasBlock (place : ℕ) (bytes : List ℕ) (s : FoundBlock) : Type 0 where
   pub head : head_at bytes place ≡ Some s.extent
-  pub body : body_at (drop 24 bytes) place ≡ Some (said s.block)
+  pub body : body_at (drop 24 bytes) place ≡ Some (body_said s.block)
   pub long : 24 ≤ length bytes
   pub hash : s.hash ≡ mix_of s.block.key.now
   pub small : IsSmall s.block.key.now s.block.value.now

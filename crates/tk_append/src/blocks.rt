@@ -29,7 +29,7 @@ pub(crate) fn put_words<D: Disk>(
     ensures front { OnOk result (at.old ≤ at.new) }
     ensures told { is_some (D.image disk.new) ≡ is_some (D.image disk.old) }
     ensures cause { HasFaultCause (D.fault_count disk.old) (D.fault_count disk.new) result }
-    ensures nameless { WritesNoHeader D.past D.moment D.left_with disk.old disk.new }
+    ensures no_header { WritesNoHeader D.past D.moment D.left_with disk.old disk.new }
 {
     for word in words {
         waiting.extend(&word.to_be_bytes())?;
@@ -59,7 +59,7 @@ fn put_record<D: Disk>(
     ensures front { OnOk result (at.old ≤ at.new) }
     ensures told { is_some (D.image disk.new) ≡ is_some (D.image disk.old) }
     ensures cause { HasFaultCause (D.fault_count disk.old) (D.fault_count disk.new) result }
-    ensures nameless { WritesNoHeader D.past D.moment D.left_with disk.old disk.new }
+    ensures no_header { WritesNoHeader D.past D.moment D.left_with disk.old disk.new }
 {
     let place = *at + waiting.len() as u64;
     let block = Block {
@@ -104,7 +104,7 @@ pub(crate) fn put_records<D: Disk>(
     ensures front { OnOk result (at.old ≤ at.new) }
     ensures told { is_some (D.image disk.new) ≡ is_some (D.image disk.old) }
     ensures cause { HasFaultCause (D.fault_count disk.old) (D.fault_count disk.new) result }
-    ensures nameless { WritesNoHeader D.past D.moment D.left_with disk.old disk.new }
+    ensures no_header { WritesNoHeader D.past D.moment D.left_with disk.old disk.new }
 {
     for (i, pair) in pairs.iter().enumerate() {
         let last = is_flagged(each, i, pairs.len());

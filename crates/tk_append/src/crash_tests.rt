@@ -47,7 +47,7 @@ fn add(
     if log.end() > 10_000 || !is_level(log) {
         return Ok(false);
     }
-    log.prepare(&changes, &links)?;
+    log.reserve_text(&changes, &links)?;
     log.append(number)?;
     Ok(true)
 }

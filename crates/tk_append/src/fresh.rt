@@ -35,7 +35,7 @@ fn write_records<D: Disk>(
     ensures end { IfOk result (λ n. n ≡ end_of (base_of p) (fresh_bodies number each pairs.now)) }
     ensures told { is_some (D.image disk.new) ≡ is_some (D.image disk.old) }
     ensures cause { HasFaultCause (D.fault_count disk.old) (D.fault_count disk.new) result }
-    ensures nameless { WritesNoHeader D.past D.moment D.left_with disk.old disk.new }
+    ensures no_header { WritesNoHeader D.past D.moment D.left_with disk.old disk.new }
 {
     let chains = chains_of(alloc, p, pairs)?;
     let mut waiting = Bytes::with_capacity(alloc, PIECE)?;
@@ -82,7 +82,7 @@ fn write_rest<D: Disk>(
     ensures settled { OnOk result (IfSome (D.image disk.new) (λ f. D.past disk.new ≡ settled_on f)) }
     ensures told { is_some (D.image disk.new) ≡ is_some (D.image disk.old) }
     ensures cause { HasFaultCause (D.fault_count disk.old) (D.fault_count disk.new) result }
-    ensures nameless { IfSome (D.image disk.old) (λ _.
+    ensures no_header { IfSome (D.image disk.old) (λ _.
         PastOnly D.moment D.left_with disk.old disk.new (NoNewHeader (D.past disk.old))) }
 {
     let each = head.kind == 2;

@@ -4,7 +4,7 @@ ghost use Rattle.tk_model.specs.Records.{after_one};
 ghost use Rattle.tk_model.specs.declared.record.Order.TheVariants.{Hash};
 ghost use Rattle.tk_model.specs.declared.record.Change.TheVariants.{Put};
 ghost use Rattle.tk_model.specs.declared.record.Pair.{Pair};
-ghost use Rattle.tk_block.specs.Blocks.{said};
+ghost use Rattle.tk_block.specs.Blocks.{body_said};
 ghost use Rattle.tk_append.specs.Opening.{change_in};
 ghost use Rattle.tk_append.specs.Keys.{HasKeys};
 
@@ -26,7 +26,7 @@ pub(crate) fn change_keys(
     keys: &mut HashSet<Vec<u8>>,
     block: Block<'_>,
 ) -> Result<(), NoMemory>
-    ensures { (pairs : List Pair) → HasKeys keys.old pairs → OnOk result (HasKeys keys.new (after_one Hash (change_in (said block.entry)) pairs)) }
+    ensures { (pairs : List Pair) → HasKeys keys.old pairs → OnOk result (HasKeys keys.new (after_one Hash (change_in (body_said block.entry)) pairs)) }
 {
     match block.kind {
         1 => add(alloc, keys, block.key),

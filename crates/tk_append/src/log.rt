@@ -12,7 +12,7 @@ ghost use Rattle.tk_block.specs.Blocks.{group_bodies};
 ghost use Rattle.tk_block.specs.Layout.{group_text, laid, end_of, links_of};
 ghost use Rattle.tk_append.specs.Log.{blocks_of};
 ghost use Rattle.tk_append.specs.contracts.log.GroupLog.{the_row};
-ghost use Rattle.tk_append.specs.LogParts.{log_disk, log_head, log_end, with_disk, with_closing, open_mark, ready_text, IsReady, Stands};
+ghost use Rattle.tk_append.specs.LogParts.{log_disk, log_head, log_end, with_disk, with_closing, open_mark, ready_text, IsReservedText, Stands};
 ghost use Rattle.tk_append.specs.LogPasts.{Settles, Marks, Closes};
 
 use std::alloc::Global;
@@ -26,7 +26,7 @@ pub struct GroupLog<D: Disk> {
     disk: D,
     head: StaticHead,
     end: u64,
-    ready: Bytes,
+    reserved_text: Bytes,
 }
 
 impl<D: Disk> GroupLog<D> {
@@ -40,7 +40,7 @@ impl<D: Disk> GroupLog<D> {
             disk,
             head,
             end,
-            ready: Bytes::new(alloc),
+            reserved_text: Bytes::new(alloc),
         }
     }
 
@@ -86,55 +86,55 @@ impl<D: Disk> GroupLog<D> {
             disk,
             head: _,
             end: _,
-            ready: _,
+            reserved_text: _,
         } = self;
         disk
     }
 
     /// Makes a group of these changes ready for the end, under any number.
     #[tactic(auto, using(crate::proofs::LogSteps::fit_small))]
-    pub fn prepare(&mut self, changes: &ChangeList, links: &LinkList) -> Result<(), NoMemory>
+    pub fn reserve_text(&mut self, changes: &ChangeList, links: &LinkList) -> Result<(), NoMemory>
         requires fit { AllFit changes.now }
         requires links { length links.now ≡ length changes.now }
         requires end { end_of (log_end self.old) (group_bodies 0 changes.now) ≤ 2 ^ 40 }
-        ensures ready { OnOk result (IsReady self.new changes.now links.now) }
+        ensures reserved_text { OnOk result (IsReservedText self.new changes.now links.now) }
         ensures disk { log_disk self.new ≡ log_disk self.old }
         ensures head { log_head self.new ≡ log_head self.old }
         ensures end { log_end self.new ≡ log_end self.old }
     {
-        self.ready.clear();
-        write_changes(0, changes, self.end, links, &mut self.ready)
+        self.reserved_text.clear();
+        write_changes(0, changes, self.end, links, &mut self.reserved_text)
     }
 
     /// Adds the group that is ready, under this number, by one write.
     pub fn append(&mut self, number: u64) -> Result<(), DiskError>
-        requires ready { (changes : List Change) × (links : List ℕ) × IsReady self.old changes links × (end_of (log_end self.old) (group_bodies number changes) ≤ 2 ^ 40) }
+        requires reserved_text { (changes : List Change) × (links : List ℕ) × IsReservedText self.old changes links × (end_of (log_end self.old) (group_bodies number changes) ≤ 2 ^ 40) }
         requires here { IfSome (D.image (log_disk self.old)) (λ f. length f ≡ log_end self.old) }
-        ensures written { (changes : List Change) (links : List ℕ) → IsReady self.old changes links
+        ensures written { (changes : List Change) (links : List ℕ) → IsReservedText self.old changes links
             → OnOk result (D.image (log_disk self.new) ≡ option_map (λ f. f ++ group_text (record { number = number; changes = changes }) (log_end self.old) links) (D.image (log_disk self.old))) }
-        ensures end { (changes : List Change) (links : List ℕ) → IsReady self.old changes links
+        ensures end { (changes : List Change) (links : List ℕ) → IsReservedText self.old changes links
             → OnOk result (log_end self.new ≡ end_of (log_end self.old) (group_bodies number changes)) }
-        ensures stands { (groups : List Group) (changes : List Change) (links : List ℕ) → Stands D.image self.old groups → IsReady self.old changes links
+        ensures stands { (groups : List Group) (changes : List Change) (links : List ℕ) → Stands D.image self.old groups → IsReservedText self.old changes links
             → links ≡ links_of (log_head self.old).p (blocks_of (log_head self.old) groups) (laid (log_end self.old) (group_bodies number changes))
             → OnOk result (Stands D.image self.new (groups ++ record { number = number; changes = changes } ∷ [])) }
         ensures head { log_head self.new ≡ log_head self.old }
         ensures told { is_some (D.image (log_disk self.new)) ≡ is_some (D.image (log_disk self.old)) }
         ensures taken { D.taken_count (log_disk self.new) ≡ D.taken_count (log_disk self.old) }
         ensures cause { HasCause (D.fault_count (log_disk self.old)) (D.fault_count (log_disk self.new)) result }
-        ensures crash { (changes : List Change) (links : List ℕ) → IsReady self.old changes links
+        ensures crash { (changes : List Change) (links : List ℕ) → IsReservedText self.old changes links
             → Follows (Torn (log_end self.old) (length (group_text (record { number = number; changes = changes }) (log_end self.old) links))) (D.may_leave (log_disk self.old)) (D.may_leave (log_disk self.new)) }
-        ensures time { (changes : List Change) (links : List ℕ) → IsReady self.old changes links
+        ensures time { (changes : List Change) (links : List ℕ) → IsReservedText self.old changes links
             → LeavesOnly D.moment D.left_since (log_disk self.old) (log_disk self.new) (λ c. (d : List ℕ) × D.may_leave (log_disk self.old) d × Torn (log_end self.old) (length (group_text (record { number = number; changes = changes }) (log_end self.old) links)) d c) }
-        ensures past { (changes : List Change) (links : List ℕ) → IsReady self.old changes links
+        ensures past { (changes : List Change) (links : List ℕ) → IsReservedText self.old changes links
             → Writes (log_end self.old) (ready_text self.old number changes links)
             (D.past (log_disk self.old)) (D.past (log_disk self.new)) }
-        ensures pasts { (changes : List Change) (links : List ℕ) → IsReady self.old changes links
+        ensures pasts { (changes : List Change) (links : List ℕ) → IsReservedText self.old changes links
             → PastOnly D.moment D.left_with (log_disk self.old) (log_disk self.new)
             (Writes (log_end self.old) (ready_text self.old number changes links) (D.past (log_disk self.old))) }
     {
-        renumber(&mut self.ready, self.end, number);
-        self.disk.write_at(self.end, self.ready.as_slice())?;
-        self.end += self.ready.len() as u64;
+        renumber(&mut self.reserved_text, self.end, number);
+        self.disk.write_at(self.end, self.reserved_text.as_slice())?;
+        self.end += self.reserved_text.len() as u64;
         Ok(())
     }
 

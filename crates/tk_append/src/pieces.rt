@@ -26,7 +26,7 @@ pub(crate) fn flush<D: Disk>(
     ensures front { OnOk result (at.old ≤ at.new) }
     ensures told { is_some (D.image disk.new) ≡ is_some (D.image disk.old) }
     ensures cause { HasCause (D.fault_count disk.old) (D.fault_count disk.new) result }
-    ensures nameless { WritesNoHeader D.past D.moment D.left_with disk.old disk.new }
+    ensures no_header { WritesNoHeader D.past D.moment D.left_with disk.old disk.new }
 {
     disk.write_at(*at, waiting.as_slice())?;
     *at += waiting.len() as u64;
@@ -49,7 +49,7 @@ pub(crate) fn flush_piece<D: Disk>(
     ensures front { OnOk result (at.old ≤ at.new) }
     ensures told { is_some (D.image disk.new) ≡ is_some (D.image disk.old) }
     ensures cause { HasCause (D.fault_count disk.old) (D.fault_count disk.new) result }
-    ensures nameless { WritesNoHeader D.past D.moment D.left_with disk.old disk.new }
+    ensures no_header { WritesNoHeader D.past D.moment D.left_with disk.old disk.new }
 {
     if waiting.len() < PIECE {
         return Ok(());

@@ -1,6 +1,6 @@
 //! To what the image that a crash leaves of a file of groups is restored.
 ghost use Rattle.std.specs.Prelude.{◌≡◌, ◌≤◌, IfOk, MatchOption};
-ghost use Rattle.tk_block.specs.Blocks.{said};
+ghost use Rattle.tk_block.specs.Blocks.{body_said};
 ghost use Rattle.tk_append.specs.Opening.{change_in};
 ghost use Rattle.tk_append.specs.Restored.{groups_in, restored_groups};
 ghost use Rattle.tk_append.specs.Reread.{NoneThere, IsThere};
@@ -32,7 +32,7 @@ fn block_at(bytes: &[u8], place: u64) -> Option<Standing<'_>>
 
 /// What a block does.
 pub fn change_of(alloc: Global, block: Block<'_>) -> Result<Change, NoMemory>
-    ensures { IfOk result (λ c. c ≡ change_in (said block.entry)) }
+    ensures { IfOk result (λ c. c ≡ change_in (body_said block.entry)) }
 {
     match block.kind {
         1 => {
@@ -57,7 +57,7 @@ struct Reading {
 
 impl Reading {
     ghost use Rattle.std.specs.Prelude.{◌≡◌, ◌<◌, ◌≤◌, length, IfOk, OnOk};
-    ghost use Rattle.tk_block.specs.Blocks.{IsSmall, said};
+    ghost use Rattle.tk_block.specs.Blocks.{IsSmall, body_said};
     ghost use Rattle.tk_block.specs.declared.head.StaticHead.{StaticHead};
     ghost use Rattle.tk_append.specs.Opening.{Walk, begin, walked};
     ghost use Rattle.tk_append.specs.Restored.{may_be_read};
@@ -78,7 +78,7 @@ impl Reading {
     /// The block may be read behind those so far.
     fn may_read(&self, found: &Standing<'_>) -> bool
         requires { IsSmall found.now.block.key.now found.now.block.value.now }
-        ensures { (w : Walk) → Knows self.now w → result ≡ may_be_read w found.now.extent (said found.now.block) }
+        ensures { (w : Walk) → Knows self.now w → result ≡ may_be_read w found.now.extent (body_said found.now.block) }
     {
         let room = 44 + found.block.key.len() + found.block.value.len();
         room as u64 <= found.extent
@@ -88,7 +88,7 @@ impl Reading {
 
     /// One block more.
     fn add(&mut self, alloc: Global, place: u64, block: Block<'_>) -> Result<(), NoMemory>
-        ensures { (w : Walk) → Knows self.old w → OnOk result (Knows self.new (walked w (record { place = place; body = said block.entry }))) }
+        ensures { (w : Walk) → Knows self.old w → OnOk result (Knows self.new (walked w (record { place = place; body = body_said block.entry }))) }
     {
         self.begun.push(change_of(alloc, block)?)?;
         let number = block.number;

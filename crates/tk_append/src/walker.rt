@@ -1,9 +1,9 @@
 ghost use Rattle.std.specs.Prelude.{◌≡◌, ◌≤◌, ◌<◌, ◌^◌, ◌+◌, ◌-◌, ℕ, List, length, take, drop, replicate, IfOk, OnOk, Some, MatchOption, MatchResult, nat_le, ◌&&◌, ◌==◌};
 ghost use Rattle.std.specs.Str.{bytes_eq};
 ghost use Rattle.tk_model.specs.Hashes.{mix_of};
-ghost use Rattle.tk_block.specs.Blocks.{IsSmall, body_at, said, extent_of, room_of};
+ghost use Rattle.tk_block.specs.Blocks.{IsSmall, body_at, body_said, extent_of, room_of};
 ghost use Rattle.tk_block.specs.Layout.{link_of, Placed};
-ghost use Rattle.tk_append.specs.Opening.{Walk, is_home, is_in_turn, is_padded, may_stand, walked};
+ghost use Rattle.tk_append.specs.Opening.{Walk, is_in_its_shard, is_in_turn, is_padded, may_stand, walked};
 ghost use Rattle.tk_append.specs.Walked.{IsAt, MayFollow, Fails, NewestIn, HasNone, HasBlock, turn_in, live_head};
 
 use crate::keys::change_keys;
@@ -66,9 +66,9 @@ fn block_at(bytes: &[u8], place: u64) -> Option<FoundBlock<'_>>
 /// The bytes behind the body are zero.
 fn is_padded(bytes: &[u8], extent: u64, block: Block<'_>) -> bool
     requires small { IsSmall block.key.now block.value.now }
-    requires extent { extent ≡ extent_of (said block) }
+    requires extent { extent ≡ extent_of (body_said block) }
     requires long { extent ≤ length bytes.now }
-    ensures { result ≡ is_padded bytes.now extent (said block.entry) }
+    ensures { result ≡ is_padded bytes.now extent (body_said block.entry) }
 {
     let room = 44 + block.key.len() + block.value.len();
     let padding = &bytes[room..extent as usize];
@@ -78,7 +78,7 @@ fn is_padded(bytes: &[u8], extent: u64, block: Block<'_>) -> bool
 /// The block lies within the bytes, has the least extent that fits and zero padding.
 fn is_well_laid(bytes: &[u8], extent: u64, block: Block<'_>) -> bool
     requires small { IsSmall block.key.now block.value.now }
-    ensures { result ≡ (nat_le extent (length bytes.now) && (extent == extent_of (said block.entry)) && is_padded bytes.now extent (said block.entry)) }
+    ensures { result ≡ (nat_le extent (length bytes.now) && (extent == extent_of (body_said block.entry)) && is_padded bytes.now extent (body_said block.entry)) }
 {
     extent <= bytes.len() as u64
         && extent == extent_of(block.key.len(), block.value.len())
@@ -86,17 +86,17 @@ fn is_well_laid(bytes: &[u8], extent: u64, block: Block<'_>) -> bool
 }
 
 /// The key belongs to this file of a set.
-fn is_home(head: &StaticHead, shard_of: ShardOf, found: &FoundBlock<'_>) -> bool
+fn is_in_its_shard(head: &StaticHead, shard_of: ShardOf, found: &FoundBlock<'_>) -> bool
     requires shard { shard_of.index < shard_of.of }
     requires hash { found.now.hash ≡ mix_of found.now.block.key.now }
-    ensures { result ≡ is_home head.now shard_of (said found.now.block) }
+    ensures { result ≡ is_in_its_shard head.now shard_of (body_said found.now.block) }
 {
     head.kind != 1 || found.block.kind == 4 || shard(found.hash, shard_of.of) == shard_of.index
 }
 
 /// The block may follow those before it in its group, or begin a group.
 pub fn is_in_turn(before: Option<u64>, open_group: Option<OpenGroup>, block: Block<'_>) -> bool
-    ensures { result ≡ turn_in before open_group (said block.entry) }
+    ensures { result ≡ turn_in before open_group (body_said block.entry) }
 {
     match open_group {
         Some(first) => block.number == first.number && block.kind != 4,
@@ -109,7 +109,7 @@ impl Walker {
     ghost use Rattle.std.specs.Prelude.{◌≡◌, ◌≤◌, ◌<◌, ◌^◌, ◌+◌, ℕ, List, [], ◌++◌, ◌∷◌, length, Option, option_map, if◌then◌else◌, IfOk, OnOk, IfErr};
     ghost use Rattle.tk_model.specs.Hashes.{mix_of};
     ghost use Rattle.tk_block.specs.Text.{base_of};
-    ghost use Rattle.tk_block.specs.Blocks.{IsSmall, said};
+    ghost use Rattle.tk_block.specs.Blocks.{IsSmall, body_said};
     ghost use Rattle.tk_block.specs.Layout.{Placed, link_of};
     ghost use Rattle.tk_append.specs.Chains.{HeadsAre};
     ghost use Rattle.tk_append.specs.Opening.{Walk, begin, may_stand, walked, opened_by};
@@ -137,7 +137,7 @@ impl Walker {
         requires p { p ≤ 24 }
         requires heads { length self.now.heads.items ≡ 2 ^ p }
         requires hash { found.now.hash ≡ mix_of found.now.block.key.now }
-        ensures { (place : ℕ) (w : Walk) → IsAt p place self.now w → result ≡ link_of p w.blocks (said found.now.block) }
+        ensures { (place : ℕ) (w : Walk) → IsAt p place self.now w → result ≡ link_of p w.blocks (body_said found.now.block) }
     {
         if found.block.kind == 4 {
             return 0;
@@ -156,12 +156,12 @@ impl Walker {
         requires shard { shard.index < shard.of }
         requires small { IsSmall found.now.block.key.now found.now.block.value.now }
         requires hash { found.now.hash ≡ mix_of found.now.block.key.now }
-        ensures { (place : ℕ) (w : Walk) → IsAt head.now.p place self.now w → result ≡ may_stand head.now shard w bytes.now found.now.extent (said found.now.block) }
+        ensures { (place : ℕ) (w : Walk) → IsAt head.now.p place self.now w → result ≡ may_stand head.now shard w bytes.now found.now.extent (body_said found.now.block) }
     {
         is_well_laid(bytes, found.extent, found.block)
             && found.block.kind != 3
             && is_in_turn(self.before, self.open_group, found.block)
-            && is_home(head, shard, found)
+            && is_in_its_shard(head, shard, found)
     }
 
     /// The block at the front of bytes that lie at a place, where it may stand behind those so far.
@@ -176,7 +176,7 @@ impl Walker {
         requires heads { length self.now.heads.items ≡ 2 ^ head.now.p }
         requires shard { shard.index < shard.of }
         requires place { place + length bytes.now < 2 ^ 64 }
-        ensures found { (w : Walk) → IsAt head.now.p place self.now w → IfOk result (λ s. MayFollow head.now shard w place bytes.now s.extent (said s.block)) }
+        ensures found { (w : Walk) → IsAt head.now.p place self.now w → IfOk result (λ s. MayFollow head.now shard w place bytes.now s.extent (body_said s.block)) }
         ensures fails { (w : Walk) → IsAt head.now.p place self.now w → IfErr result (Fails head.now shard w place bytes.now) }
         ensures block { IfOk result (HasBlock place bytes.now) }
     {
@@ -197,8 +197,8 @@ impl Walker {
         requires p { p ≤ 24 }
         requires heads { length self.old.heads.items ≡ 2 ^ p }
         requires hash { found.now.hash ≡ mix_of found.now.block.key.now }
-        ensures heads { (blocks : List Placed) → NewestIn p place self.old.heads.items self.old.cleared blocks → IsOfKind (said found.now.block)
-            → (next : ℕ) → place < next → NewestIn p next self.new.heads.items self.new.cleared (blocks ++ record { place = place; body = said found.now.block } ∷ []) }
+        ensures heads { (blocks : List Placed) → NewestIn p place self.old.heads.items self.old.cleared blocks → IsOfKind (body_said found.now.block)
+            → (next : ℕ) → place < next → NewestIn p next self.new.heads.items self.new.cleared (blocks ++ record { place = place; body = body_said found.now.block } ∷ []) }
         ensures keys { self.new.keys ≡ self.old.keys }
         ensures before { self.new.before ≡ self.old.before }
         ensures open_group { self.new.open_group ≡ self.old.open_group }
@@ -213,7 +213,7 @@ impl Walker {
     /// The block ends its group, or goes on with one.
     fn turn_group(&mut self, place: u64, block: Block<'_>)
         ensures before { (least : ℕ) → least ≡ least_behind self.old.before → (if block.entry.last then block.entry.number + 1 else least) ≡ least_behind self.new.before }
-        ensures open_group { (first : Option Placed) → self.old.open_group ≡ option_map as_open first → self.new.open_group ≡ option_map as_open (opened_by first (record { place = place; body = said block.entry })) }
+        ensures open_group { (first : Option Placed) → self.old.open_group ≡ option_map as_open first → self.new.open_group ≡ option_map as_open (opened_by first (record { place = place; body = body_said block.entry })) }
         ensures heads { self.new.heads.items ≡ self.old.heads.items }
         ensures cleared { self.new.cleared ≡ self.old.cleared }
         ensures keys { self.new.keys ≡ self.old.keys }
@@ -240,8 +240,8 @@ impl Walker {
         requires p { p ≤ 24 }
         requires heads { length self.old.heads.items ≡ 2 ^ p }
         requires hash { found.now.hash ≡ mix_of found.now.block.key.now }
-        ensures walked { (w : Walk) (next : ℕ) → IsAt p place self.old w → IsOfKind (said found.now.block) → place < next
-            → OnOk result (IsAt p next self.new (walked w (record { place = place; body = said found.now.block }))) }
+        ensures walked { (w : Walk) (next : ℕ) → IsAt p place self.old w → IsOfKind (body_said found.now.block) → place < next
+            → OnOk result (IsAt p next self.new (walked w (record { place = place; body = body_said found.now.block }))) }
     {
         change_keys(alloc, &mut self.keys, found.block)?;
         self.turn_heads(p, place, found);

@@ -42,8 +42,8 @@ block_text b place link =
     head_text (extent_of b) place ++ to_be_bytes w64 link ++ body_text b place ++ replicate (extent_of b - room_of b) 0
 
 -- the body that a block says
-abbrev pub said : Block → Body
-said b = record { kind = b.kind; last = b.last; key = b.key.now; value = b.value.now; number = b.number }
+abbrev pub body_said : Block → Body
+body_said b = record { kind = b.kind; last = b.last; key = b.key.now; value = b.value.now; number = b.number }
 
 -- the same body under another number
 abbrev pub numbered : (number : ℕ) → Body → Body

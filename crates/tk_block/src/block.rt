@@ -3,7 +3,7 @@ ghost use Rattle.std.specs.Io.{StartsWith};
 ghost use Rattle.std.specs.Str.{bytes_eq};
 ghost use Rattle.tk_block.specs.Text.{check_number};
 ghost use Rattle.tk_block.specs.Grammar.{Reads, FitsBody};
-ghost use Rattle.tk_block.specs.Blocks.{IsSmall, flag, numbers_text, body_front, body_text, block_text, room_of, extent_for, extent_of, said, is_nil, is_body, body_at, body_in, check_in};
+ghost use Rattle.tk_block.specs.Blocks.{IsSmall, flag, numbers_text, body_front, body_text, block_text, room_of, extent_for, extent_of, body_said, is_nil, is_body, body_at, body_in, check_in};
 
 use crate::head::write_head;
 use crate::number::{u16_at, u32_at, u64_at};
@@ -57,7 +57,7 @@ fn flag(last: bool) -> u8
 
 fn numbers_of(block: Block<'_>) -> [u8; 16]
     requires { IsSmall block.key.now block.value.now }
-    ensures { result ≡ numbers_text (said block.entry) }
+    ensures { result ≡ numbers_text (body_said block.entry) }
 {
     let k = (block.key.len() as u16).to_be_bytes();
     let v = (block.value.len() as u32).to_be_bytes();
@@ -71,7 +71,7 @@ fn numbers_of(block: Block<'_>) -> [u8; 16]
 
 fn put_front(block: Block<'_>, out: &mut Bytes) -> Result<(), NoMemory>
     requires { IsSmall block.key.now block.value.now }
-    ensures ok { OnOk result (out.new ≡ out.old ++ body_front (said block.entry)) }
+    ensures ok { OnOk result (out.new ≡ out.old ++ body_front (body_said block.entry)) }
     ensures err { OnErr result (StartsWith out.new out.old) }
 {
     out.extend(&numbers_of(block))?;
@@ -82,7 +82,7 @@ fn put_front(block: Block<'_>, out: &mut Bytes) -> Result<(), NoMemory>
 #[tactic(auto, unfolding(crate::specs::Text::checked))]
 fn put_body(block: Block<'_>, place: u64, out: &mut Bytes) -> Result<(), NoMemory>
     requires { IsSmall block.key.now block.value.now }
-    ensures ok { OnOk result (out.new ≡ out.old ++ body_text (said block.entry) place) }
+    ensures ok { OnOk result (out.new ≡ out.old ++ body_text (body_said block.entry) place) }
     ensures err { OnErr result (StartsWith out.new out.old) }
 {
     let start = out.len();
@@ -95,7 +95,7 @@ fn put_body(block: Block<'_>, place: u64, out: &mut Bytes) -> Result<(), NoMemor
 #[tactic(auto, unfolding(crate::specs::Blocks::block_text))]
 pub fn write_block(block: Block<'_>, place: u64, link: u64, out: &mut Bytes) -> Result<(), NoMemory>
     requires { IsSmall block.key.now block.value.now }
-    ensures ok { OnOk result (out.new ≡ out.old ++ block_text (said block.entry) place link) }
+    ensures ok { OnOk result (out.new ≡ out.old ++ block_text (body_said block.entry) place link) }
     ensures err { OnErr result (StartsWith out.new out.old) }
 {
     let room = 44 + block.key.len() + block.value.len();
@@ -107,7 +107,7 @@ pub fn write_block(block: Block<'_>, place: u64, link: u64, out: &mut Bytes) -> 
 }
 
 fn is_body(block: Block<'_>) -> bool
-    ensures { result ≡ is_body (said block.entry) }
+    ensures { result ≡ is_body (body_said block.entry) }
 {
     1 <= block.kind
         && block.kind <= 4
@@ -134,7 +134,7 @@ fn check_place(bytes: &[u8]) -> Option<usize>
 fn fields_of(bytes: &[u8], check_at: usize) -> Block<'_>
     requires place { check_at ≡ check_in bytes.now }
     requires long { check_at + 4 ≤ length bytes.now }
-    ensures fields { said result ≡ body_in bytes.now }
+    ensures fields { body_said result ≡ body_in bytes.now }
     ensures key { length result.key.now < 2 ^ 16 }
 {
     let value_at = 16 + u16_at(bytes, 2) as usize;
@@ -150,7 +150,7 @@ fn fields_of(bytes: &[u8], check_at: usize) -> Block<'_>
 fn is_spelled(bytes: &[u8], check_at: usize, block: Block<'_>, place: u64) -> bool
     requires place { check_at ≡ check_in bytes.now }
     requires long { check_at + 4 ≤ length bytes.now }
-    requires fields { said block ≡ body_in bytes.now }
+    requires fields { body_said block ≡ body_in bytes.now }
     requires small { IsSmall block.key.now block.value.now }
     ensures { result ≡ bytes_eq (take (check_in bytes.now + 4) bytes.now) (body_text (body_in bytes.now) place) }
 {
@@ -162,7 +162,7 @@ fn is_spelled(bytes: &[u8], check_at: usize, block: Block<'_>, place: u64) -> bo
 /// The body that the front of bytes at a place spells. Bytes behind it are not looked at.
 #[tactic(auto, unfolding(crate::specs::Blocks::body_at))]
 pub fn body_at(bytes: &[u8], place: u64) -> Option<Block<'_>>
-    ensures value { option_map said result ≡ body_at bytes.now place }
+    ensures value { option_map body_said result ≡ body_at bytes.now place }
     ensures exact { Reads FitsBody (λ b. body_text b place) (λ bytes. body_at bytes place) }
 {
     let check_at = check_place(bytes)?;

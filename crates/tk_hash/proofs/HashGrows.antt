@@ -12,7 +12,7 @@ use Rattle.tk_model.specs.declared.record.Pair.{Pair}
 use Rattle.tk_model.specs.declared.record.Group.{Group}
 use Rattle.tk_model.specs.declared.record.Change.{Change}
 use Rattle.tk_model.specs.Records.{after, replay, AllFit, IsClearAlone}
-use Rattle.tk_store.specs.Store.{Nature, First, Groups, made, extents_need, extent_of, UnlessFault}
+use Rattle.tk_store.specs.Store.{StoreConstants, First, Groups, groups_made_by, extents_need, extent_of, UnlessFault}
 use Rattle.tk_store.specs.declared.error.StoreError.{StoreError}
 use Rattle.tk_store.specs.declared.error.StoreError.TheVariants as errors
 use Rattle.tk_disk.specs.declared.disk.DiskError.{DiskError}
@@ -32,10 +32,10 @@ use Rattle.tk_append.specs.FairPast.{IsFairPast}
 use Rattle.tk_append.proofs.LogSteps.{end_more}
 use Rattle.tk_append.proofs.Restoring.{file_kept}
 use Rattle.tk_hash.specs.Fair.{KeepsFair}
-use Rattle.tk_hash.specs.Hash.{groups_held, floor_of, opening, map_in, KeepsGroups, IsStaged, HashPrepared, HashStands, HashStood}
+use Rattle.tk_hash.specs.Hash.{groups_held, floor_of, opening, map_in, KeepsGroups, IsReservedGroup, HashReserved, HashStands, HashKeptSince}
 use Rattle.tk_hash.specs.HashLaws.{groups_joined, length-text_of, is_file, all_legal, kept_held, fair_held, file_of}
 use Rattle.tk_hash.specs.declared.store.HashStore.{HashStore}
-use Rattle.tk_hash.specs.declared.store.Staged.{Staged}
+use Rattle.tk_hash.specs.declared.store.ReservedGroup.{ReservedGroup}
 use Rattle.tk_hash.specs.declared.plan.NewHeads.{NewHeads}
 use Rattle.tk_hash.specs.declared.plan.NewHeads.TheVariants.{Cleared, Renewed}
 use Rattle.tk_hash.proofs.GroupChained.{length-with_new}
@@ -112,13 +112,13 @@ may_write true cs only some = refl
 may_write false cs only some = absurd (some (only refl))
 
 -- a list of changes makes one group
-pub one_made : (nature : Nature) (n : ℕ) (cs : List Change) → cs ≢ [] → record { number = n; changes = cs } ∷ [] ≡ made nature n cs
-one_made nature n [] some = absurd (some refl)
-one_made nature n (c ∷ cs) some = refl
+pub one_made : (constants : StoreConstants) (n : ℕ) (cs : List Change) → cs ≢ [] → record { number = n; changes = cs } ∷ [] ≡ groups_made_by constants n cs
+one_made constants n [] some = absurd (some refl)
+one_made constants n (c ∷ cs) some = refl
 
-pub sum_is : (nature : Nature) (cs : List Change) → cs ≢ [] → extents_need nature 1 cs ≡ sum_by (extent_of 1) cs
-sum_is nature [] some = absurd (some refl)
-sum_is nature (c ∷ cs) some = refl
+pub sum_is : (constants : StoreConstants) (cs : List Change) → cs ≢ [] → extents_need constants 1 cs ≡ sum_by (extent_of 1) cs
+sum_is constants [] some = absurd (some refl)
+sum_is constants (c ∷ cs) some = refl
 
 two_mapped : {A B C : Type 0} (o p : Option A) (x : B) (y : C) (g : B → C) → is_some p ≡ is_some o → y ≡ g x → option_map (λ a. y) p ≡ option_map g (option_map (λ a. x) o)
 two_mapped None None x y g told is = refl
@@ -174,8 +174,8 @@ module _ {D : Type 0} (image : D → Option (List ℕ)) (may_leave : D → List 
     header_there = IfSome_then (image (log_disk s.log)) length_there (λ f long. omega (arith, long, base_within))
 
     -- what waits, and that close was called, is no part of what a store stands for
-    pub restaged : (o : Option Staged) (b : Bool) → (b ≡ false → s.closed ≡ false) → HashStands image may_leave past (record s { staged = o; closed = b }) first since hard
-    restaged o b unclosed = rested image may_leave past s (record s { staged = o; closed = b }) first since hard hard st
+    pub restaged : (o : Option ReservedGroup) (b : Bool) → (b ≡ false → s.closed ≡ false) → HashStands image may_leave past (record s { reserved_group = o; closed = b }) first since hard
+    restaged o b unclosed = rested image may_leave past s (record s { reserved_group = o; closed = b }) first since hard hard st
         (record { head = refl; end = refl; closing = refl; count = refl; next = refl; last = refl; writable = refl; closed = unclosed; heads = refl; found = λ known. known; buffer = refl; bytes = refl }) (shelf_same image s) st.synced st.kept st.fair
 
     -- where its groups end
@@ -183,10 +183,10 @@ module _ {D : Type 0} (image : D → Option (List ℕ)) (may_leave : D → List 
     groups_end = subst (λ (gs : List Group). log_end s.log ≡ end_of (base_of (log_head s.log).p) (bodies_of (gs ++ since))) (sym (ap groups_held st.held)) st.end_is
 
   -- what is staged
-  pub staged_is : (s : HashStore D) (g : Staged) (cs : List Change) → s.staged ≡ Some g → HashPrepared image s cs → IsStaged image s cs g
-  staged_is s g cs found p = prepared_is s.staged g (IsStaged image s cs) (cs ≡ []) found p.staged
+  pub staged_is : (s : HashStore D) (g : ReservedGroup) (cs : List Change) → s.reserved_group ≡ Some g → HashReserved image s cs → IsReservedGroup image s cs g
+  staged_is s g cs found p = prepared_is s.reserved_group g (IsReservedGroup image s cs) (cs ≡ []) found p.reserved_group
 
-  pub staged_still : (s : HashStore D) (o : Option Staged) (cs : List Change) (g : Staged) → IsStaged image s cs g → IsStaged image (record s { staged = o }) cs g
+  pub staged_still : (s : HashStore D) (o : Option ReservedGroup) (cs : List Change) (g : ReservedGroup) → IsReservedGroup image s cs g → IsReservedGroup image (record s { reserved_group = o }) cs g
   staged_still s o cs g is = record {
     some = is.some;
     heads = is.heads;
@@ -212,8 +212,8 @@ module _ {D : Type 0} (image : D → Option (List ℕ)) (may_leave : D → List 
   map_kept s t first since hard now told old new =
       map_is image may_leave past t first since now new ∙ same_mapped (image (log_disk s.log)) (image (log_disk t.log)) (replay Hash since first.records) told ∙ sym (map_is image may_leave past s first since hard old)
 
-  pub stood_staged : (moment : D → ℕ) (left_since : D → ℕ → List ℕ → Type 0) (left_with : D → ℕ → Past × List ℕ → Type 0) (s : HashStore D) (o : Option Staged) (b : Bool) → (b ≡ false → s.closed ≡ false) → (since_when n : ℕ) (first : First) (since : List Group) (hard : ℕ) → HashStood image may_leave past moment left_since left_with s since_when n first since hard
-      → HashStood image may_leave past moment left_since left_with (record s { staged = o; closed = b }) since_when n first since hard
+  pub stood_staged : (moment : D → ℕ) (left_since : D → ℕ → List ℕ → Type 0) (left_with : D → ℕ → Past × List ℕ → Type 0) (s : HashStore D) (o : Option ReservedGroup) (b : Bool) → (b ≡ false → s.closed ≡ false) → (since_when n : ℕ) (first : First) (since : List Group) (hard : ℕ) → HashKeptSince image may_leave past moment left_since left_with s since_when n first since hard
+      → HashKeptSince image may_leave past moment left_since left_with (record s { reserved_group = o; closed = b }) since_when n first since hard
   stood_staged moment left_since left_with s o b unclosed since_when n first since hard st = record {
     stands = restaged s first since hard st.stands o b unclosed;
     safe = record { within = st.safe.within; each = st.safe.each; fair = st.safe.fair; kept = st.safe.kept };
@@ -272,8 +272,8 @@ module _ {D : Type 0} (image : D → Option (List ℕ)) (may_leave : D → List 
       (closed_still (image (log_disk s.log)) (image (log_disk s.log)) (log_head s.log) s.closing (st.groups ++ since) (log_end s.log) s.count s.next st.there (st.unmarked only) st.end_is st.count refl)
 
   -- the store after a group
-  pub grown : (moment : D → ℕ) (left_since : D → ℕ → List ℕ → Type 0) (left_with : D → ℕ → Past × List ℕ → Type 0) (s t : HashStore D) (g : Staged) (n : ℕ) (cs : List Change) (mid : Option (List ℕ)) (first : First) (since : List Group) (hard : ℕ)
-      → (is : IsStaged image s cs g) → AllFit cs → IsClearAlone cs → s.writable ≡ true → floor_of s.next s.last ≤ n → n < 2 ^ 64 → HashStands image may_leave past s first since hard
+  pub grown : (moment : D → ℕ) (left_since : D → ℕ → List ℕ → Type 0) (left_with : D → ℕ → Past × List ℕ → Type 0) (s t : HashStore D) (g : ReservedGroup) (n : ℕ) (cs : List Change) (mid : Option (List ℕ)) (first : First) (since : List Group) (hard : ℕ)
+      → (is : IsReservedGroup image s cs g) → AllFit cs → IsClearAlone cs → s.writable ≡ true → floor_of s.next s.last ≤ n → n < 2 ^ 64 → HashStands image may_leave past s first since hard
       → log_head t.log ≡ log_head s.log → log_end t.log ≡ end_of (log_end s.log) (group_bodies n cs) → t.count ≡ g.count → t.last ≡ Some n → t.next ≡ s.next → t.writable ≡ s.writable → t.closing ≡ s.closing → t.closed ≡ s.closed → t.heads.items ≡ with_heads g.heads s.heads.items → t.found.present ≡ None → t.buffer.items ≡ s.buffer.items → t.shelf ≡ None
       → is_some (image (log_disk t.log)) ≡ is_some (image (log_disk s.log)) → mid ≡ option_map (λ f. f ++ group_text (record { number = n; changes = cs }) (log_end s.log) is.links) (image (log_disk s.log))
       → PutsHeads mid (image (log_disk t.log)) (log_head s.log) g.heads

@@ -29,7 +29,7 @@ use Rattle.tk_append.proofs.FairPasts.{fair_more}
 use Rattle.tk_hash.specs.Fair.{KeepsFair}
 use Rattle.tk_hash.specs.Seek.{KnowsHeads, IsFound, KnowsKey, IsShelf}
 use Rattle.tk_hash.specs.declared.found.FoundKey.{FoundKey}
-use Rattle.tk_hash.specs.Hash.{groups_held, KeepsGroups, map_in, HashStands, HashSafe, HashStood}
+use Rattle.tk_hash.specs.Hash.{groups_held, KeepsGroups, map_in, HashStands, HashSafe, HashKeptSince}
 use Rattle.tk_hash.specs.HashLaws.{mapped, is_file, kept_held, fair_held, legal_held, records_are, kept_front, fair_each}
 use Rattle.tk_hash.specs.declared.store.HashStore.{HashStore}
 use Rattle.tk_hash.specs.declared.shelf.Shelf.{Shelf}
@@ -286,26 +286,26 @@ module _ {D : Type 0} (image : D → Option (List ℕ)) (may_leave : D → List 
 
     module _ (since_with : (d : D) (t : ℕ) (x : Past × List ℕ) → left_with d t x → left_since d t x.1) where
       -- what is safe stays so where the groups that were synchronised are kept, and the past stays fair
-      pub safe_as : (s t : HashStore D) (since_when n : ℕ) (first : First) (since more : List Group) (hard : ℕ) → HashStood image may_leave past moment left_since left_with s since_when n first since hard
+      pub safe_as : (s t : HashStore D) (since_when n : ℕ) (first : First) (since more : List Group) (hard : ℕ) → HashKeptSince image may_leave past moment left_since left_with s since_when n first since hard
           → log_head t.log ≡ log_head s.log → t.writable ≡ s.writable → is_some (image (log_disk t.log)) ≡ is_some (image (log_disk s.log)) → KeepsGroups may_leave moment left_since (log_head s.log) (groups_held first.held ++ take hard since) (log_disk s.log) (log_disk t.log)
           → (s.writable ≡ true → IfSome (image (log_disk s.log)) (λ f. KeepsFair past moment left_with (log_head s.log) (groups_held first.held ++ since) more (log_disk s.log) (log_disk t.log)))
           → AreGroups 0 (2 ^ 64) (groups_held first.held ++ (since ++ more)) → HashSafe image left_since left_with t since_when first (since ++ more) n
-      safe_as s t since_when n first since more hard stood head writable told keeps fair_on legal =
-          let st = stood.stands in
+      safe_as s t since_when n first since more hard kept_since head writable told keeps fair_on legal =
+          let st = kept_since.stands in
           let h : StaticHead = log_head s.log in
           let held : List Group = groups_held first.held in
           let o : Option (List ℕ) = image (log_disk s.log) in
           let new : Option (List ℕ) = image (log_disk t.log) in
-          let within : n ≤ length (since ++ more) = omega (arith, stood.safe.within, length-append since more) in
+          let within : n ≤ length (since ++ more) = omega (arith, kept_since.safe.within, length-append since more) in
           let can : t.writable ≡ true → s.writable ≡ true = λ may. sym writable ∙ may in
           let kept : t.writable ≡ true → IfSome new (λ f. (c : List ℕ) → left_since (log_disk t.log) since_when c → IsKept h (held ++ take n (since ++ more)) c) = λ may.
-          carried_both o new told (stood.safe.kept (can may)) (kept_held image may_leave past s first since hard st (can may))
-          (λ was kept c left. subst (λ (l : List Group). IsKept h (held ++ l) c) (sym (take-append-le n since more stood.safe.within))
-          (elim (keeps.since kept since_when c stood.before left) [ inl before ↦ was c before | inr is ↦ kept_front h held since n hard c stood.least st.synced is ])) in
+          carried_both o new told (kept_since.safe.kept (can may)) (kept_held image may_leave past s first since hard st (can may))
+          (λ was kept c left. subst (λ (l : List Group). IsKept h (held ++ l) c) (sym (take-append-le n since more kept_since.safe.within))
+          (elim (keeps.since kept since_when c kept_since.before left) [ inl before ↦ was c before | inr is ↦ kept_front h held since n hard c kept_since.least st.synced is ])) in
           let fair : t.writable ≡ true → IfSome new (λ f. (x : Past × List ℕ) → left_with (log_disk t.log) since_when x → IsFairPast h (held ++ (since ++ more)) x.0) = λ may.
-          carried_both o new told (both_told o _ _ (stood.safe.fair (can may)) (fair_held image may_leave past s first since hard st (can may))) (fair_on (can may))
+          carried_both o new told (both_told o _ _ (kept_since.safe.fair (can may)) (fair_held image may_leave past s first since hard st (can may))) (fair_on (can may))
           (λ was keeps_fair x left. subst (λ (l : List Group). IsFairPast h l x.0) (append_assoc held since more)
-          (elim (keeps_fair.since was.1 since_when x stood.before left) [ inl before ↦ fair_more h (held ++ since) more x.0 (was.0 x before) | inr is ↦ is ])) in
+          (elim (keeps_fair.since was.1 since_when x kept_since.before left) [ inl before ↦ fair_more h (held ++ since) more x.0 (was.0 x before) | inr is ↦ is ])) in
           record {
             within = within;
             each = λ may. rw head (fair_each new (left_since (log_disk t.log) since_when) (left_with (log_disk t.log) since_when) h held (since ++ more) n st.header st.generation within legal (since_with (log_disk t.log) since_when) (kept may) (fair may));
@@ -314,10 +314,10 @@ module _ {D : Type 0} (image : D → Option (List ℕ)) (may_leave : D → List 
           }
 
       -- what stood does so on, where what it stands for now is known
-      pub stood_as : (s t : HashStore D) (since_when n : ℕ) (first : First) (since more : List Group) (hard now : ℕ) → HashStood image may_leave past moment left_since left_with s since_when n first since hard → HashStands image may_leave past t first (since ++ more) now → hard ≤ now
+      pub stood_as : (s t : HashStore D) (since_when n : ℕ) (first : First) (since more : List Group) (hard now : ℕ) → HashKeptSince image may_leave past moment left_since left_with s since_when n first since hard → HashStands image may_leave past t first (since ++ more) now → hard ≤ now
           → log_head t.log ≡ log_head s.log → t.writable ≡ s.writable → is_some (image (log_disk t.log)) ≡ is_some (image (log_disk s.log)) → KeepsGroups may_leave moment left_since (log_head s.log) (groups_held first.held ++ take hard since) (log_disk s.log) (log_disk t.log)
           → (s.writable ≡ true → IfSome (image (log_disk s.log)) (λ f. KeepsFair past moment left_with (log_head s.log) (groups_held first.held ++ since) more (log_disk s.log) (log_disk t.log)))
-          → HashStood image may_leave past moment left_since left_with t since_when n first (since ++ more) now
+          → HashKeptSince image may_leave past moment left_since left_with t since_when n first (since ++ more) now
       stood_as s t since_when n first since more hard now st stands le head writable told keeps fair_on = record {
         stands = stands;
         safe = safe_as s t since_when n first since more hard st head writable told keeps fair_on (legal_held image may_leave past t first (since ++ more) now stands);
@@ -326,7 +326,7 @@ module _ {D : Type 0} (image : D → Option (List ℕ)) (may_leave : D → List 
       }
 
       -- the same without a group
-      pub safe_kept : (s t : HashStore D) (since_when n : ℕ) (first : First) (since : List Group) (hard : ℕ) → HashStood image may_leave past moment left_since left_with s since_when n first since hard
+      pub safe_kept : (s t : HashStore D) (since_when n : ℕ) (first : First) (since : List Group) (hard : ℕ) → HashKeptSince image may_leave past moment left_since left_with s since_when n first since hard
           → log_head t.log ≡ log_head s.log → t.writable ≡ s.writable → is_some (image (log_disk t.log)) ≡ is_some (image (log_disk s.log)) → KeepsGroups may_leave moment left_since (log_head s.log) (groups_held first.held ++ take hard since) (log_disk s.log) (log_disk t.log)
           → (s.writable ≡ true → IfSome (image (log_disk s.log)) (λ f. KeepsFair past moment left_with (log_head s.log) (groups_held first.held ++ since) [] (log_disk s.log) (log_disk t.log)))
           → HashSafe image left_since left_with t since_when first (since ++ []) n
@@ -334,10 +334,10 @@ module _ {D : Type 0} (image : D → Option (List ℕ)) (may_leave : D → List 
           safe_as s t since_when n first since [] hard st head writable told keeps fair_on
           (subst (λ (l : List Group). AreGroups 0 (2 ^ 64) (groups_held first.held ++ l)) (sym (append-nil since)) (legal_held image may_leave past s first since hard st.stands))
 
-      pub stood_kept : (s t : HashStore D) (since_when n : ℕ) (first : First) (since : List Group) (hard now : ℕ) → HashStood image may_leave past moment left_since left_with s since_when n first since hard → HashStands image may_leave past t first since now → hard ≤ now
+      pub stood_kept : (s t : HashStore D) (since_when n : ℕ) (first : First) (since : List Group) (hard now : ℕ) → HashKeptSince image may_leave past moment left_since left_with s since_when n first since hard → HashStands image may_leave past t first since now → hard ≤ now
           → log_head t.log ≡ log_head s.log → t.writable ≡ s.writable → is_some (image (log_disk t.log)) ≡ is_some (image (log_disk s.log)) → KeepsGroups may_leave moment left_since (log_head s.log) (groups_held first.held ++ take hard since) (log_disk s.log) (log_disk t.log)
           → (s.writable ≡ true → IfSome (image (log_disk s.log)) (λ f. KeepsFair past moment left_with (log_head s.log) (groups_held first.held ++ since) [] (log_disk s.log) (log_disk t.log)))
-          → HashStood image may_leave past moment left_since left_with t since_when n first since now
+          → HashKeptSince image may_leave past moment left_since left_with t since_when n first since now
       stood_kept s t since_when n first since hard now st stands le head writable told keeps fair_on = record {
         stands = stands;
         safe = subst (λ (l : List Group). HashSafe image left_since left_with t since_when first l n) (append-nil since) (safe_kept s t since_when n first since hard st head writable told keeps fair_on);
@@ -346,7 +346,7 @@ module _ {D : Type 0} (image : D → Option (List ℕ)) (may_leave : D → List 
       }
 
       pub stood_on : (s t : HashStore D) (since_when n : ℕ) (first : First) (since : List Group) (hard : ℕ) → SameFile image s t → KeepsShelf image s t.shelf → OnlyReads may_leave moment left_since past left_with (log_disk s.log) (log_disk t.log)
-          → HashStood image may_leave past moment left_since left_with s since_when n first since hard → HashStood image may_leave past moment left_since left_with t since_when n first since hard
+          → HashKeptSince image may_leave past moment left_since left_with s since_when n first since hard → HashKeptSince image may_leave past moment left_since left_with t since_when n first since hard
       stood_on s t since_when n first since hard same shelf still st =
           stood_kept s t since_when n first since hard hard st (read_on s t first since hard same shelf still st.stands) (omega arith) same.head same.writable (ap is_some same.bytes)
           (keeps_read may_leave moment left_since (log_head s.log) (groups_held first.held ++ take hard since) past left_with (log_disk s.log) (log_disk t.log) still)

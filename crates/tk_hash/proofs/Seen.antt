@@ -11,7 +11,7 @@ use Rattle.tk_block.specs.Number.{u16_in, u32_in}
 use Rattle.tk_block.specs.Blocks.{extent_of, room_of}
 use Rattle.tk_block.specs.Layout.{Placed}
 use Rattle.tk_block.proofs.Lengths.{length-block_text}
-use Rattle.tk_hash.specs.Linked.{StandsAt, Sees, shown}
+use Rattle.tk_hash.specs.Linked.{StandsAt, Sees, bytes_shown}
 use Rattle.tk_hash.proofs.Fronts.{Front, text, front_of, key_part, value_part, value_fits}
 
 -- a part behind a front that was read
@@ -82,7 +82,7 @@ module _ (f : List ℕ) (x : Placed) (link place : ℕ) (stands : StandsAt f x l
     end_is : end ≡ min (room_of x.body - 4) room
     end_is = omega (arith, until, same_length key old first read passes, (first_front old first read).value)
 
-    pub cost_seen : (before mid now : ℕ) → mid ≤ before + (48 - 0) → now ≤ mid + (end - 48) → now ≤ before + shown x.body room
+    pub cost_seen : (before mid now : ℕ) → mid ≤ before + (48 - 0) → now ≤ mid + (end - 48) → now ≤ before + bytes_shown x.body room
     cost_seen before mid now one two = omega (arith, one, two, end_is)
 
     seen : (has : Bool) → SecondRead place end first buffer f → length buffer ≡ room → min 65575 (40 + length key) ≤ room → has ≡ same_bytes key (take (length key) (drop 40 buffer)) → Sees key x.body link buffer has
@@ -118,7 +118,7 @@ seen_told (Some f) mid place key old first buffer end room x link has same read 
     seen f x link place stands at key old first buffer end room read passes until has (subst (λ (o : Option (List ℕ)). IfSome o (SecondRead place end first buffer)) same again) long fits told
 
 pub cost_told : (o : Option (List ℕ)) (place : ℕ) (key old first : List ℕ) (end room : ℕ) (x : Placed) (link before mid now : ℕ) → IfSome o (FirstRead place old first) → test key first ≡ true
-    → end ≡ min (40 + length key + u32_in first 28) room → mid ≤ before + (48 - 0) → now ≤ mid + (end - 48) → IfSome o (λ f. StandsAt f x link → x.place ≡ place → now ≤ before + shown x.body room)
+    → end ≡ min (40 + length key + u32_in first 28) room → mid ≤ before + (48 - 0) → now ≤ mid + (end - 48) → IfSome o (λ f. StandsAt f x link → x.place ≡ place → now ≤ before + bytes_shown x.body room)
 cost_told None place key old first end room x link before mid now read passes until one two = tt
 cost_told (Some f) place key old first end room x link before mid now read passes until one two = λ stands at. cost_seen f x link place stands at key old first [] end room read passes until before mid now one two
 

@@ -10,7 +10,7 @@ use Rattle.tk_block.specs.Layout.{Placed, bucket_in, newest}
 use Rattle.tk_append.specs.Log.{blocks_of}
 use Rattle.tk_append.specs.FileText.{IsFile}
 use Rattle.tk_hash.specs.Chain.{chain_of, value_in, value_by, extents}
-use Rattle.tk_hash.specs.Linked.{StandsAt, IsChained, Sees, Decides, Left, shown}
+use Rattle.tk_hash.specs.Linked.{StandsAt, IsChained, Sees, Decides, Left, bytes_shown}
 use Rattle.tk_hash.specs.Seek.{KnowsHeads}
 use Rattle.tk_hash.proofs.Chained.{newest_chained}
 use Rattle.tk_hash.proofs.HashKeeps.{heads_in}
@@ -26,7 +26,7 @@ head_told (Some f) h heads key first groups know is below = λ file.
 
 -- ---- one block more
 
-shown_most : (x : Placed) (room : ℕ) → shown x.body room ≤ extent_of x.body
+shown_most : (x : Placed) (room : ℕ) → bytes_shown x.body room ≤ extent_of x.body
 shown_most x room = omega arith
 
 -- what is seen of the block at a place
@@ -34,7 +34,7 @@ abbrev pub SeenAt : (key buffer : List ℕ) (place : ℕ) (has : Bool) → List 
 SeenAt key buffer place has f = (x : Placed) (k : ℕ) → StandsAt f x k → x.place ≡ place → Sees key x.body k buffer has
 
 abbrev pub CostsAt : (place mid now room : ℕ) → List ℕ → Type 0
-CostsAt place mid now room f = (x : Placed) (k : ℕ) → StandsAt f x k → x.place ≡ place → now ≤ mid + shown x.body room
+CostsAt place mid now room f = (x : Placed) (k : ℕ) → StandsAt f x k → x.place ≡ place → now ≤ mid + bytes_shown x.body room
 
 module _ (key : List ℕ) (xs : List Placed) (f : List ℕ) (before mid now place room : ℕ) where
   cost_from : (rest : List Placed) → place ≢ 0 → IsChained f place rest → mid + extents rest ≤ before + extents xs → CostsAt place mid now room f → now ≤ before + extents xs
@@ -89,36 +89,36 @@ each_told : (f : List ℕ) (mid : Option (List ℕ)) (place : ℕ) (P : Placed �
 each_told f mid place P is each x k = subst (λ (o : Option (List ℕ)). IfSome o (λ f. StandsAt f x k → x.place ≡ place → P x k)) is (each x k)
 
 module _ (key : List ℕ) (mid : Option (List ℕ)) (first : ℕ) (xs : List Placed) (before was now place room : ℕ) where
-  pub cost_so_far : (o : Option (List ℕ)) → mid ≡ o → place ≢ 0 → AtEach mid place (λ x k. now ≤ was + shown x.body room) → ToldLeft key o first xs before was place → IfSome o (λ f. IsChained f first xs → now ≤ before + extents xs)
+  pub cost_so_far : (o : Option (List ℕ)) → mid ≡ o → place ≢ 0 → AtEach mid place (λ x k. now ≤ was + bytes_shown x.body room) → ToldLeft key o first xs before was place → IfSome o (λ f. IsChained f first xs → now ≤ before + extents xs)
   cost_so_far None is some costs left = tt
   cost_so_far (Some f) is some costs left = λ chained.
       let l = left chained in
-      cost_from key xs f before was now place room l.rest some l.chained l.cost (each_told f mid place (λ x k. now ≤ was + shown x.body room) is costs)
+      cost_from key xs f before was now place room l.rest some l.chained l.cost (each_told f mid place (λ x k. now ≤ was + bytes_shown x.body room) is costs)
 
-  pub goes_on : (o : Option (List ℕ)) (buffer : List ℕ) (link : ℕ) (has : Bool) → mid ≡ o → place ≢ 0 → has ≡ false → AtEach mid place (λ x k. Sees key x.body k buffer has) → AtEach mid place (λ x k. now ≤ was + shown x.body room) → link ≡ u64_in buffer 16
+  pub goes_on : (o : Option (List ℕ)) (buffer : List ℕ) (link : ℕ) (has : Bool) → mid ≡ o → place ≢ 0 → has ≡ false → AtEach mid place (λ x k. Sees key x.body k buffer has) → AtEach mid place (λ x k. now ≤ was + bytes_shown x.body room) → link ≡ u64_in buffer 16
       → ToldLeft key o first xs before was place → ToldLeft key o first xs before now link
   goes_on None buffer link has is some told sees costs same left = tt
   goes_on (Some f) buffer link has is some told sees costs same left = λ chained.
       let l = left chained in
       (next_from key xs f before was now place room buffer link l.rest some l.chained l.value l.cost (subst (λ (t : Bool). SeenAt key buffer place t f) told (each_told f mid place (λ x k. Sees key x.body k buffer has) is sees))
-      (each_told f mid place (λ x k. now ≤ was + shown x.body room) is costs) same).0
+      (each_told f mid place (λ x k. now ≤ was + bytes_shown x.body room) is costs) same).0
 
-  pub no_way_up : (o : Option (List ℕ)) (buffer : List ℕ) (link : ℕ) (has : Bool) → mid ≡ o → place ≢ 0 → has ≡ false → AtEach mid place (λ x k. Sees key x.body k buffer has) → AtEach mid place (λ x k. now ≤ was + shown x.body room) → link ≡ u64_in buffer 16 → place ≤ link
+  pub no_way_up : (o : Option (List ℕ)) (buffer : List ℕ) (link : ℕ) (has : Bool) → mid ≡ o → place ≢ 0 → has ≡ false → AtEach mid place (λ x k. Sees key x.body k buffer has) → AtEach mid place (λ x k. now ≤ was + bytes_shown x.body room) → link ≡ u64_in buffer 16 → place ≤ link
       → ToldLeft key o first xs before was place → IfSome o (λ f. IsChained f first xs → value_by key xs ≡ None)
   no_way_up None buffer link has is some told sees costs same up left = tt
   no_way_up (Some f) buffer link has is some told sees costs same up left = λ chained.
       let l = left chained in
       let down = (next_from key xs f before was now place room buffer link l.rest some l.chained l.value l.cost (subst (λ (t : Bool). SeenAt key buffer place t f) told (each_told f mid place (λ x k. Sees key x.body k buffer has) is sees))
-      (each_told f mid place (λ x k. now ≤ was + shown x.body room) is costs) same).1 in
+      (each_told f mid place (λ x k. now ≤ was + bytes_shown x.body room) is costs) same).1 in
       absurd (omega (arith, down, up))
 
-  pub here : (o : Option (List ℕ)) (buffer : List ℕ) (has : Bool) → mid ≡ o → place ≢ 0 → has ≡ true → AtEach mid place (λ x k. Sees key x.body k buffer has) → AtEach mid place (λ x k. now ≤ was + shown x.body room) → length buffer ≡ room
+  pub here : (o : Option (List ℕ)) (buffer : List ℕ) (has : Bool) → mid ≡ o → place ≢ 0 → has ≡ true → AtEach mid place (λ x k. Sees key x.body k buffer has) → AtEach mid place (λ x k. now ≤ was + bytes_shown x.body room) → length buffer ≡ room
       → ToldLeft key o first xs before was place → IfSome o (λ f. IsChained f first xs → Decides key xs f buffer before now place)
   here None buffer has is some told sees costs long left = tt
   here (Some f) buffer has is some told sees costs long left = λ chained.
       let l = left chained in
       here_from key xs f before was now place (length buffer) buffer l.rest some l.chained l.value l.cost (subst (λ (t : Bool). SeenAt key buffer place t f) told (each_told f mid place (λ x k. Sees key x.body k buffer has) is sees))
-      (subst (λ (n : ℕ). CostsAt place was now n f) (sym long) (each_told f mid place (λ x k. now ≤ was + shown x.body room) is costs))
+      (subst (λ (n : ℕ). CostsAt place was now n f) (sym long) (each_told f mid place (λ x k. now ≤ was + bytes_shown x.body room) is costs))
 
 pub ends : (key : List ℕ) (o : Option (List ℕ)) (first : ℕ) (xs : List Placed) (before now place : ℕ) → place ≡ 0 → ToldLeft key o first xs before now place → IfSome o (λ f. IsChained f first xs → value_by key xs ≡ None)
 ends key None first xs before now place none left = tt

@@ -7,7 +7,7 @@ use Rattle.tk_model.specs.Records.{after, replay, AllFit, IsClearAlone}
 use Rattle.tk_model.specs.declared.record.Order.TheVariants.{Hash}
 use Rattle.tk_model.specs.declared.record.Group.{Group}
 use Rattle.tk_model.specs.declared.record.Change.{Change}
-use Rattle.tk_store.specs.Store.{Nature, Shown, First, Held, Groups, Blocks, Pages, Records, floor_after, extents_need}
+use Rattle.tk_store.specs.Store.{StoreConstants, StoreView, First, Held, Groups, Blocks, Pages, Records, floor_after, extents_need}
 use Rattle.tk_block.specs.Text.{static_text, base_of, is_static}
 use Rattle.tk_block.specs.Blocks.{group_bodies}
 use Rattle.tk_block.specs.Layout.{laid, links_of, end_of, bodies_of}
@@ -16,7 +16,7 @@ use Rattle.tk_block.specs.declared.head.StaticHead.{StaticHead}
 use Rattle.tk_append.specs.Chains.{HeadsAre}
 use Rattle.tk_append.specs.declared.log.GroupLog.{GroupLog}
 use Rattle.tk_append.specs.Log.{AreGroups, blocks_of}
-use Rattle.tk_append.specs.LogParts.{log_disk, log_head, log_end, open_mark, IsReady}
+use Rattle.tk_append.specs.LogParts.{log_disk, log_head, log_end, open_mark, IsReservedText}
 use Rattle.tk_append.specs.Restored.{groups_in, restored_groups, IsKept}
 use Rattle.tk_append.specs.FairPast.{IsFairPast}
 use Rattle.tk_append.specs.Untorn.{IsUntornBy}
@@ -25,7 +25,7 @@ use Rattle.tk_hash.specs.Chain.{cost_in}
 use Rattle.tk_hash.specs.Plan.{with_heads, FitHeads}
 use Rattle.tk_hash.specs.Seek.{KnowsHeads, KnowsKey, IsShelf}
 use Rattle.tk_hash.specs.declared.store.HashStore.{HashStore}
-use Rattle.tk_hash.specs.declared.store.Staged.{Staged}
+use Rattle.tk_hash.specs.declared.store.ReservedGroup.{ReservedGroup}
 
 -- the opening of a file of groups
 abbrev pub opening : List Group → First
@@ -88,15 +88,15 @@ module _ {D : Type 0} where
   abbrev pub hash_closing : HashStore D → Closing
   hash_closing s = s.closing
 
-  abbrev pub hash_nature : HashStore D → Nature
-  hash_nature s = record { order = Hash; limit = min s.limit (2 ^ 40); next = s.next; longest_value = 33554431; writable = s.writable; marks = false; extents = Some 1; header = static_text (log_head s.log); log = None }
+  abbrev pub hash_constants : HashStore D → StoreConstants
+  hash_constants s = record { order = Hash; limit = min s.limit (2 ^ 40); next = s.next; longest_value = 33554431; writable = s.writable; marks = false; extents = Some 1; header = static_text (log_head s.log); log = None }
 
   -- the records of the file, where the disk tells it
   abbrev pub map_in : (image : D → Option (List ℕ)) → HashStore D → Option (List (Rattle.tk_model.specs.declared.record.Pair.Pair))
   map_in image s = option_map (λ f. replay Hash (groups_in (log_head s.log) f) []) (image (log_disk s.log))
 
-  abbrev pub hash_shown : (image : D → Option (List ℕ)) → HashStore D → Shown
-  hash_shown image s = record {
+  abbrev pub hash_view : (image : D → Option (List ℕ)) → HashStore D → StoreView
+  hash_view image s = record {
     map = map_in image s;
     size = log_end s.log;
     floor = floor_of s.next s.last;
@@ -104,16 +104,16 @@ module _ {D : Type 0} where
     closed = s.closed;
     ended = if s.closed && s.writable then ended_with s.closing else None;
     cost = λ k. option_map (λ f. cost_in (log_head s.log) (groups_in (log_head s.log) f) k) (image (log_disk s.log));
-    needs = λ cs. Some (extents_need (hash_nature s) 1 cs);
+    needs = λ cs. Some (extents_need (hash_constants s) 1 cs);
     log_size = 0;
   }
 
   -- what waits is a group of these changes behind any groups that the file may have: its links, the heads and the count of records after it
-  pub record IsStaged (image : D → Option (List ℕ)) (s : HashStore D) (cs : List Change) (g : Staged) : Type 0 where
+  pub record IsReservedGroup (image : D → Option (List ℕ)) (s : HashStore D) (cs : List Change) (g : ReservedGroup) : Type 0 where
     pub some : cs ≢ []
     pub heads : FitHeads (2 ^ (log_head s.log).p) g.heads
     pub links : List ℕ
-    pub ready : IsReady s.log cs links
+    pub ready : IsReservedText s.log cs links
     pub ends : (number : ℕ) → end_of (log_end s.log) (group_bodies number cs) ≤ 2 ^ 40
     pub links_are : (number : ℕ) (groups : List Group) → IfSome (image (log_disk s.log)) (λ f. IsFile (log_head s.log) f groups
         → links ≡ links_of (log_head s.log).p (blocks_of (log_head s.log) groups) (laid (log_end s.log) (group_bodies number cs)))
@@ -122,11 +122,11 @@ module _ {D : Type 0} where
     pub count_is : (groups : List Group) → IfSome (image (log_disk s.log)) (λ f. IsFile (log_head s.log) f groups → s.count ≡ length (replay Hash groups [])
         → g.count ≡ length (after Hash cs (replay Hash groups [])))
 
-  pub record HashPrepared (image : D → Option (List ℕ)) (s : HashStore D) (cs : List Change) : Type 0 where
+  pub record HashReserved (image : D → Option (List ℕ)) (s : HashStore D) (cs : List Change) : Type 0 where
     pub fit : AllFit cs
     pub alone : IsClearAlone cs
     pub may : s.writable ≡ false → cs ≡ []
-    pub staged : MatchOption s.staged (cs ≡ []) (IsStaged image s cs)
+    pub reserved_group : MatchOption s.reserved_group (cs ≡ []) (IsReservedGroup image s cs)
 
   pub record HashStands (image : D → Option (List ℕ)) (may_leave : D → List ℕ → Type 0) (past : D → Past) (s : HashStore D) (first : First) (since : List Group) (hard : ℕ) : Type 0 where
     pub groups : List Group
@@ -168,7 +168,7 @@ module _ {D : Type 0} where
     -- each image since the time, untorn or not, has the header and the blocks of the groups of the opening and of the first n since
     pub kept : s.writable ≡ true → IfSome (image (log_disk s.log)) (λ f. (c : List ℕ) → left_since (log_disk s.log) t c → IsKept (log_head s.log) (groups_held first.held ++ take n since) c)
 
-  pub record HashStood (image : D → Option (List ℕ)) (may_leave : D → List ℕ → Type 0) (past : D → Past) (moment : D → ℕ) (left_since : D → ℕ → List ℕ → Type 0) (left_with : D → ℕ → Past × List ℕ → Type 0) (s : HashStore D) (t n : ℕ) (first : First) (since : List Group) (hard : ℕ) : Type 0 where
+  pub record HashKeptSince (image : D → Option (List ℕ)) (may_leave : D → List ℕ → Type 0) (past : D → Past) (moment : D → ℕ) (left_since : D → ℕ → List ℕ → Type 0) (left_with : D → ℕ → Past × List ℕ → Type 0) (s : HashStore D) (t n : ℕ) (first : First) (since : List Group) (hard : ℕ) : Type 0 where
     pub stands : HashStands image may_leave past s first since hard
     pub safe : HashSafe image left_since left_with s t first since n
     pub least : n ≤ hard

@@ -33,7 +33,7 @@ use Rattle.tk_append.proofs.Restoring.{reads_back, kept_less}
 use Rattle.tk_hash.specs.declared.store.HashStore.{HashStore}
 use Rattle.tk_disk.specs.Past.{Past}
 use Rattle.tk_disk.proofs.Moments.{nothing_read, reads_joined}
-use Rattle.tk_hash.specs.Hash.{hash_disk, HashUntouched, ended_with, groups_held, floor_of, RestoresTo, hash_nature, hash_shown, map_in, HashStands, HashSafe, HashStood}
+use Rattle.tk_hash.specs.Hash.{hash_disk, HashUntouched, ended_with, groups_held, floor_of, RestoresTo, hash_constants, hash_view, map_in, HashStands, HashSafe, HashKeptSince}
 
 groups_from : (low least next : ℕ) (gs : List Group) → low ≤ least → AreGroups least next gs → AreGroups low next gs
 groups_from low least next [] le legal = omega (arith, le, legal)
@@ -172,7 +172,7 @@ module _ {D : Type 0} (image : D → Option (List ℕ)) where
     module _ (moment : D → ℕ) (left_since : D → ℕ → List ℕ → Type 0) (left_with : D → ℕ → Past × List ℕ → Type 0) where
       pub hash_stood_now : ((d : D) (c : List ℕ) → left_since d (moment d) c → may_leave d c) → ((d : D) (x : Past × List ℕ) → left_with d (moment d) x → (x.0 ≡ past d) × may_leave d x.1)
           → ((d : D) (t : ℕ) (x : Past × List ℕ) → left_with d t x → left_since d t x.1) → (s : HashStore D) (first : First) (since : List Group) (hard : ℕ) → HashStands image may_leave past s first since hard
-          → HashStood image may_leave past moment left_since left_with s (moment (log_disk s.log)) hard first since hard
+          → HashKeptSince image may_leave past moment left_since left_with s (moment (log_disk s.log)) hard first since hard
       hash_stood_now only with back s first since hard st =
           let kept : s.writable ≡ true → IfSome (image (log_disk s.log)) (λ f. (c : List ℕ) → left_since (log_disk s.log) (moment (log_disk s.log)) c → IsKept (log_head s.log) (groups_held first.held ++ take hard since) c) = λ may.
           IfSome_then (image (log_disk s.log)) (kept_held s first since hard st may) (λ f kept c left. kept c (only (log_disk s.log) c left)) in
@@ -203,8 +203,8 @@ module _ {D : Type 0} (image : D → Option (List ℕ)) where
     pub hash_same_safe : (s : HashStore D) (t : ℕ) (first : First) (since : List Group) (m n : ℕ) → m ≤ n → HashSafe image left_since left_with s t first since n → HashSafe image left_since left_with s t first since m
     hash_same_safe s t first since m n le safe = subst (λ (l : List Group). HashSafe image left_since left_with s t first l m) (append-nil since) (hash_safe_less s t first since [] m n le safe)
 
-    pub hash_stood_less : (may_leave : D → List ℕ → Type 0) (past : D → Past) (moment : D → ℕ) (s : HashStore D) (t m n : ℕ) (first : First) (since : List Group) (hard : ℕ) → m ≤ n → HashStood image may_leave past moment left_since left_with s t n first since hard
-        → HashStood image may_leave past moment left_since left_with s t m first since hard
+    pub hash_stood_less : (may_leave : D → List ℕ → Type 0) (past : D → Past) (moment : D → ℕ) (s : HashStore D) (t m n : ℕ) (first : First) (since : List Group) (hard : ℕ) → m ≤ n → HashKeptSince image may_leave past moment left_since left_with s t n first since hard
+        → HashKeptSince image may_leave past moment left_since left_with s t m first since hard
     hash_stood_less may_leave past moment s t m n first since hard le st = record {
       stands = st.stands;
       safe = hash_same_safe s t first since m n le st.safe;
@@ -212,10 +212,10 @@ module _ {D : Type 0} (image : D → Option (List ℕ)) where
       before = st.before;
     }
 
-  pub hash_by_extents : (s : HashStore D) (v : ℕ) (changes : List Change) → (hash_nature s).extents ≡ Some v → (hash_shown image s).needs changes ≡ Some (extents_need (hash_nature s) v changes)
-  hash_by_extents s v changes is = let one : 1 ≡ v = cc in ap (λ (n : ℕ). Some (extents_need (hash_nature s) n changes)) one
+  pub hash_by_extents : (s : HashStore D) (v : ℕ) (changes : List Change) → (hash_constants s).extents ≡ Some v → (hash_view image s).needs changes ≡ Some (extents_need (hash_constants s) v changes)
+  hash_by_extents s v changes is = let one : 1 ≡ v = cc in ap (λ (n : ℕ). Some (extents_need (hash_constants s) n changes)) one
 
-  pub hash_unended : (s : HashStore D) → (hash_shown image s).closed ≡ false → (hash_shown image s).ended ≡ None
+  pub hash_unended : (s : HashStore D) → (hash_view image s).closed ≡ false → (hash_view image s).ended ≡ None
   hash_unended s unclosed = rw unclosed refl
 
   chosen : (b : Bool) (o : Option ℕ) (n : ℕ) → (if b then o else None) ≡ Some n → o ≡ Some n
@@ -227,13 +227,13 @@ module _ {D : Type 0} (image : D → Option (List ℕ)) where
   sized false m n is = cc
 
   -- a store that was ended with a number has it in the closing part that stands in the file
-  pub hash_ended : (may_leave : D → List ℕ → Type 0) (past : D → Past) (s : HashStore D) (first : First) (since : List Group) (hard n : ℕ) → HashStands image may_leave past s first since hard → (hash_shown image s).ended ≡ Some n
+  pub hash_ended : (may_leave : D → List ℕ → Type 0) (past : D → Past) (s : HashStore D) (first : First) (since : List Group) (hard n : ℕ) → HashStands image may_leave past s first since hard → (hash_view image s).ended ≡ Some n
       → IfSome (image (hash_disk s)) (λ f. (c : Closing) × (c.next ≡ n) × (f ≡ text_of (log_head s.log) c (groups_held first.held ++ since)))
   hash_ended may_leave past s first since hard n st ended =
       let next : s.closing.next ≡ n = sized (s.closing.size == 0) s.closing.next n (chosen (s.closed && s.writable) (ended_with s.closing) n ended) in
       IfSome_then (image (log_disk s.log)) st.there (λ f there. (s.closing, next, subst (λ (gs : List Group). f ≡ text_of (log_head s.log) s.closing (gs ++ since)) (sym (ap groups_held st.held)) there))
 
-pub hash_values : {D : Type 0} (s : HashStore D) → (16777215 ≤ (hash_nature s).longest_value) × ((hash_nature s).longest_value ≤ 33554431)
+pub hash_values : {D : Type 0} (s : HashStore D) → (16777215 ≤ (hash_constants s).longest_value) × ((hash_constants s).longest_value ≤ 33554431)
 hash_values s = (omega arith, omega arith)
 
 module _ {D : Type 0} (image : D → Option (List ℕ)) (may_leave : D → List ℕ → Type 0) (past : D → Past) (moment : D → ℕ) (left_since : D → ℕ → List ℕ → Type 0) (left_with : D → ℕ → Past × List ℕ → Type 0) where

@@ -23,8 +23,8 @@ IsChained f first [] = first ≡ 0
 IsChained f first (x ∷ xs) = (first ≡ x.place) × (link : ℕ) × StandsAt f x link × IsChained f link xs
 
 -- the bytes of a block as far as its value ends, or the buffer does
-abbrev pub shown : Body → (room : ℕ) → ℕ
-shown b room = max 48 (min (room_of b - 4) room)
+abbrev pub bytes_shown : Body → (room : ℕ) → ℕ
+bytes_shown b room = max 48 (min (room_of b - 4) room)
 
 -- the buffer has the front of a block, and of its value as much as there is room for
 pub record Shows (b : Body) (buffer : List ℕ) : Type 0 where
@@ -48,7 +48,7 @@ pub record Decides (key : List ℕ) (xs : List Placed) (f buffer : List ℕ) (be
   pub key_is : block.body.key ≡ key
   pub shows : Shows block.body buffer
   pub value : value_by key xs ≡ value_in block.body
-  pub left : now + extent_of block.body ≤ before + extents xs + shown block.body (length buffer)
+  pub left : now + extent_of block.body ≤ before + extents xs + bytes_shown block.body (length buffer)
 
 -- what a walk along a chain came to
 abbrev pub Found : List ℕ → List Placed → List ℕ → List ℕ → (before now : ℕ) → Option ℕ → Type 0
@@ -65,7 +65,7 @@ pub record HasValue (key : List ℕ) (value : Option (List ℕ)) (f buffer : Lis
   pub shows : Shows block.body buffer
   pub value_is : value ≡ Some block.body.value
   pub len : v.len ≡ length block.body.value
-  pub left : now + extent_of block.body ≤ before + cost + shown block.body (length buffer)
+  pub left : now + extent_of block.body ≤ before + cost + bytes_shown block.body (length buffer)
 
 -- what a search for a value came to
 abbrev pub Sought : List ℕ → Option (List ℕ) → (f buffer : List ℕ) → (before now cost : ℕ) → Option ValueAt → Type 0

@@ -5,7 +5,7 @@ ghost use Rattle.tk_model.specs.Orders.{same_bytes};
 ghost use Rattle.tk_store.specs.Store.{HasCause, OkOrFault};
 ghost use Rattle.tk_block.specs.Number.{u16_in};
 ghost use Rattle.tk_block.specs.Layout.{Placed};
-ghost use Rattle.tk_hash.specs.Linked.{StandsAt, Shows, Sees, shown};
+ghost use Rattle.tk_hash.specs.Linked.{StandsAt, Shows, Sees, bytes_shown};
 
 use tk_block::{u16_at, u32_at};
 use tk_disk::{Disk, DiskError};
@@ -93,7 +93,7 @@ pub(crate) fn has_key_at<D: Disk>(
     requires key { min 65575 (40 + length key.now) ≤ length buffer.old }
     ensures short { IfOk result (λ has. has ≡ true → length key.now < 65536) }
     ensures sees { (x : Placed) (link : ℕ) → IfSome (D.image disk.old) (λ f. StandsAt f x link → x.place ≡ place → IfOk result (Sees key.now x.body link buffer.new)) }
-    ensures cost { (x : Placed) (link : ℕ) → IfSome (D.image disk.old) (λ f. StandsAt f x link → x.place ≡ place → D.taken_count disk.new ≤ D.taken_count disk.old + shown x.body (length buffer.old)) }
+    ensures cost { (x : Placed) (link : ℕ) → IfSome (D.image disk.old) (λ f. StandsAt f x link → x.place ≡ place → D.taken_count disk.new ≤ D.taken_count disk.old + bytes_shown x.body (length buffer.old)) }
     ensures image { D.image disk.new ≡ D.image disk.old }
     ensures still { OnlyReads D.may_leave D.moment D.left_since D.past D.left_with disk.old disk.new }
     ensures taken { D.taken_count disk.old ≤ D.taken_count disk.new }

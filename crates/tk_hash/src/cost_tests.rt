@@ -14,8 +14,8 @@ const LIMIT: u64 = 1 << 30;
 fn get_cost<S: SeqStore>(alloc: Global, store: &mut S, key: &[u8]) -> Result<u64, Fail>
     requires whole { IsWhole S.stands store.old }
     ensures whole { IsWhole S.stands store.new }
-    ensures shown { S.shown store.new ≡ S.shown store.old }
-    ensures nature { S.nature store.new ≡ S.nature store.old }
+    ensures store_view { S.store_view store.new ≡ S.store_view store.old }
+    ensures constants { S.constants store.new ≡ S.constants store.old }
 {
     let before = store.taken();
     let mut value = Bytes::new(alloc);
@@ -27,9 +27,9 @@ fn get_cost<S: SeqStore>(alloc: Global, store: &mut S, key: &[u8]) -> Result<u64
 /// newest block, of the one before it, and past all three.
 fn costs<S: SeqStore>(alloc: Global, store: &mut S) -> Result<[u64; 5], Fail>
     requires whole { IsWhole S.stands store.old }
-    requires open { (S.shown store.old).closed ≡ false }
-    requires writable { (S.nature store.old).writable ≡ true }
-    requires number { (S.shown store.old).floor ≤ 0 }
+    requires open { (S.store_view store.old).closed ≡ false }
+    requires writable { (S.constants store.old).writable ≡ true }
+    requires number { (S.store_view store.old).floor ≤ 0 }
 {
     let empty = get_cost(alloc, store, b"a")?;
     set(alloc, store, 0, b"a", b"1")?;

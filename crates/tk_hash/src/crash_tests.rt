@@ -1,7 +1,7 @@
 ghost use Rattle.std.specs.Prelude.{◌≡◌, ◌≤◌, true, false};
 ghost use Rattle.tk_disk.specs.MemDisk.{mem_image, mem_past, MemMayLeave};
 ghost use Rattle.tk_store.specs.Store.{IsWhole};
-ghost use Rattle.tk_hash.specs.Hash.{hash_nature, hash_shown, HashStands};
+ghost use Rattle.tk_hash.specs.Hash.{hash_constants, hash_view, HashStands};
 
 use crate::HashStore;
 use crate::tests::{fresh, set, sync_hard};
@@ -15,9 +15,9 @@ use tk_store::StoreError;
 /// Sets three records, each in a group of its own. The first is hard-synced.
 fn three_groups(alloc: Global, store: &mut HashStore<MemDisk>) -> Result<(), StoreError>
     requires whole { IsWhole (HashStands mem_image MemMayLeave mem_past) store.old }
-    requires open { (hash_shown mem_image store.old).closed ≡ false }
-    requires writable { (hash_nature store.old).writable ≡ true }
-    requires number { (hash_shown mem_image store.old).floor ≤ 0 }
+    requires open { (hash_view mem_image store.old).closed ≡ false }
+    requires writable { (hash_constants store.old).writable ≡ true }
+    requires number { (hash_view mem_image store.old).floor ≤ 0 }
 {
     set(alloc, store, 1, b"a", b"1")?;
     sync_hard(store)?;

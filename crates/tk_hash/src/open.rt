@@ -95,7 +95,7 @@ fn begin<D: Disk>(
 }
 
 impl<D: Disk> HashStore<D> {
-    ghost use Rattle.tk_hash.specs.Hash.{hash_disk, hash_head, hash_nature, hash_shown, HashStands, IsClosedLog, opening};
+    ghost use Rattle.tk_hash.specs.Hash.{hash_disk, hash_head, hash_constants, hash_view, HashStands, IsClosedLog, opening};
 
     /// Opens a hash file of kind 1, the file of this number in a set of so many. Where it is to be written, it is made
     /// durable that it is open. The disk is handed back where it is refused.
@@ -109,11 +109,11 @@ impl<D: Disk> HashStore<D> {
         requires shard { shard.index < shard.of }
         ensures exact { IfSome (D.image disk) (λ f. Tells result (first_fault (1 ∷ []) writable shard f)) }
         ensures opened { IfOk result (λ s. (groups : List Group) × HashStands D.image D.may_leave D.past s (opening groups) [] 0
-            × IfSome (D.image disk) (λ f. f ≡ closed_text (hash_head s) groups (hash_nature s).next)) }
+            × IfSome (D.image disk) (λ f. f ≡ closed_text (hash_head s) groups (hash_constants s).next)) }
         ensures kind { IfOk result (λ s. (hash_head s).kind ≡ 1) }
-        ensures mode { IfOk result (λ s. ((hash_nature s).writable ≡ writable) × ((hash_shown D.image s).closed ≡ false)) }
-        ensures limit { IfOk result (λ s. (hash_nature s).limit ≡ min limit (2 ^ 40)) }
-        ensures last { IfOk result (λ s. writable ≡ true → (hash_nature s).next ≤ 2 ^ 62) }
+        ensures mode { IfOk result (λ s. ((hash_constants s).writable ≡ writable) × ((hash_view D.image s).closed ≡ false)) }
+        ensures limit { IfOk result (λ s. (hash_constants s).limit ≡ min limit (2 ^ 40)) }
+        ensures last { IfOk result (λ s. writable ≡ true → (hash_constants s).next ≤ 2 ^ 62) }
         ensures reads { IfOk result (λ s. writable ≡ false → D.image (hash_disk s) ≡ D.image disk) }
         ensures reads_still { writable ≡ false → IfOk result (λ s. OnlyReads D.may_leave D.moment D.left_since D.past D.left_with disk (hash_disk s)) }
         ensures marked { writable ≡ true → IfOk result (λ s. D.image (hash_disk s) ≡ option_map (with_closing open_mark) (D.image disk)) }
@@ -165,9 +165,9 @@ impl<D: Disk> HashStore<D> {
         requires empty { IfSome (D.image disk) (λ f. f ≡ []) }
         ensures opened { IfOk result (λ s. HashStands D.image D.may_leave D.past s (opening []) [] 0) }
         ensures head { IfOk result (λ s. hash_head s ≡ record { kind = 1; version = 1; p = p; order = 0; generation = 0 }) }
-        ensures mode { IfOk result (λ s. ((hash_nature s).writable ≡ true) × ((hash_shown D.image s).closed ≡ false)) }
-        ensures next { IfOk result (λ s. (hash_nature s).next ≡ 0) }
-        ensures limit { IfOk result (λ s. (hash_nature s).limit ≡ min limit (2 ^ 40)) }
+        ensures mode { IfOk result (λ s. ((hash_constants s).writable ≡ true) × ((hash_view D.image s).closed ≡ false)) }
+        ensures next { IfOk result (λ s. (hash_constants s).next ≡ 0) }
+        ensures limit { IfOk result (λ s. (hash_constants s).limit ≡ min limit (2 ^ 40)) }
         ensures told { IfOk result (λ s. is_some (D.image (hash_disk s)) ≡ is_some (D.image disk)) }
         ensures durable { IfOk result (λ s. IfSome (D.image (hash_disk s)) (λ f. Only f (D.may_leave (hash_disk s)))) }
         ensures marked { IfOk result (λ s. IfSome (D.image (hash_disk s)) (λ f. f ≡ with_closing open_mark (closed_text (hash_head s) [] 0))) }
@@ -220,9 +220,9 @@ impl<D: Disk> HashStore<D> {
         requires whole { (groups : List Group) × IsClosedLog D.image log closing heads.items groups }
         ensures stands { (groups : List Group) → IsClosedLog D.image log closing heads.items groups → IfOk result (λ s. HashStands D.image D.may_leave D.past s (opening groups) [] 0) }
         ensures head { IfOk result (λ s. hash_head s ≡ log_head log) }
-        ensures mode { IfOk result (λ s. ((hash_nature s).writable ≡ writable) × ((hash_shown D.image s).closed ≡ false)) }
-        ensures next { IfOk result (λ s. (hash_nature s).next ≡ closing.next) }
-        ensures limit { IfOk result (λ s. (hash_nature s).limit ≡ min limit (2 ^ 40)) }
+        ensures mode { IfOk result (λ s. ((hash_constants s).writable ≡ writable) × ((hash_view D.image s).closed ≡ false)) }
+        ensures next { IfOk result (λ s. (hash_constants s).next ≡ closing.next) }
+        ensures limit { IfOk result (λ s. (hash_constants s).limit ≡ min limit (2 ^ 40)) }
         ensures reads { IfOk result (λ s. writable ≡ false → D.image (hash_disk s) ≡ D.image (log_disk log)) }
         ensures reads_still { writable ≡ false → IfOk result (λ s. OnlyReads D.may_leave D.moment D.left_since D.past D.left_with (log_disk log) (hash_disk s)) }
         ensures marked { writable ≡ true → IfOk result (λ s. D.image (hash_disk s) ≡ option_map (with_closing open_mark) (D.image (log_disk log))) }
@@ -253,7 +253,7 @@ impl<D: Disk> HashStore<D> {
                 buffer,
                 found: FoundKey::new(alloc),
                 shelf: None,
-                staged: None,
+                reserved_group: None,
             }),
             Err(_) => Err(Unopened {
                 cause: OpenError::Fault,

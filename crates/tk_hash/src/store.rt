@@ -4,7 +4,7 @@ ghost use Rattle.tk_disk.specs.Crash.{Only};
 ghost use Rattle.tk_model.specs.Records.{find, AllFit, IsClearAlone};
 ghost use Rattle.tk_model.specs.declared.record.Group.{Group};
 ghost use Rattle.tk_model.specs.declared.record.Change.{Change as Changed};
-ghost use Rattle.tk_store.specs.Store.{First, made, ended_by, extent_of as change_extent, HasCause, NeverFull, OkOrFault, UnlessFault, OnNoMemory, IsWhole, GivesInto, Keeps, KeepsSince, LeavesSafe, OnlyLooks, GoesOn};
+ghost use Rattle.tk_store.specs.Store.{First, groups_made_by, ended_by, extent_of as change_extent, HasCause, NeverFull, OkOrFault, UnlessFault, OnNoMemory, IsWhole, GivesInto, Keeps, KeepsSince, LeavesSafe, OnlyLooks, GoesOn};
 ghost use Rattle.tk_append.specs.Log.{closed_text};
 
 use crate::found::FoundKey;
@@ -23,7 +23,7 @@ const LIMIT: u64 = 1 << 40;
 
 /// What stands in memory of the file after the group that is prepared.
 #[derive(Drop)]
-pub(crate) struct Staged {
+pub(crate) struct ReservedGroup {
     pub(crate) heads: NewHeads,
     pub(crate) count: u64,
 }
@@ -47,7 +47,7 @@ pub struct HashStore<D: Disk> {
     pub(crate) buffer: Vec<u8>,
     pub(crate) found: FoundKey,
     pub(crate) shelf: Option<Shelf>,
-    pub(crate) staged: Option<Staged>,
+    pub(crate) reserved_group: Option<ReservedGroup>,
 }
 
 /// The bytes that the blocks of changes take. What passes 64 bits is no sum of changes that are in memory.
@@ -66,7 +66,7 @@ fn need_of(changes: &[Change]) -> Result<u64, NoMemory>
 }
 
 /// A disk's answer as a store's: its only error is a fault.
-fn told<T>(answer: Result<T, DiskError>) -> Result<T, StoreError>
+fn as_store_error<T>(answer: Result<T, DiskError>) -> Result<T, StoreError>
     ensures ok { IfOk answer (λ v. result ≡ Ok v) }
     ensures err { OnErr answer (result ≡ Err StoreError.Fault) }
 {
@@ -77,21 +77,21 @@ fn told<T>(answer: Result<T, DiskError>) -> Result<T, StoreError>
 }
 
 impl<D: Disk> HashStore<D> {
-    ghost use Rattle.tk_hash.specs.Hash.{hash_disk, hash_head, hash_closing, hash_nature, hash_shown, groups_held, IsStaged, HashStands, HashStood, KeepsGroups, opening};
+    ghost use Rattle.tk_hash.specs.Hash.{hash_disk, hash_head, hash_closing, hash_constants, hash_view, groups_held, IsReservedGroup, HashStands, HashKeptSince, KeepsGroups, opening};
     ghost use Rattle.tk_hash.specs.Fair.{KeepsFair};
 
     /// Makes a group of these changes ready.
-    fn stage(&mut self, changes: &ChangeList) -> Result<Staged, StoreError>
+    fn reserve_changes(&mut self, changes: &ChangeList) -> Result<ReservedGroup, StoreError>
         requires whole { IsWhole (HashStands D.image D.may_leave D.past) self.old }
         requires some { changes.now ≢ [] }
         requires fit { AllFit changes.now }
         requires alone { IsClearAlone changes.now }
-        requires end { (hash_shown D.image self.old).size + sum_by (change_extent 1) changes.now ≤ 2 ^ 40 }
-        ensures staged { IfOk result (IsStaged D.image self.new changes.now) }
+        requires end { (hash_view D.image self.old).size + sum_by (change_extent 1) changes.now ≤ 2 ^ 40 }
+        ensures reserved_group { IfOk result (IsReservedGroup D.image self.new changes.now) }
         ensures stands { Keeps (HashStands D.image D.may_leave D.past) self.old self.new }
-        ensures since { KeepsSince (HashStood D.image D.may_leave D.past D.moment D.left_since D.left_with) self.old self.new }
-        ensures nature { hash_nature self.new ≡ hash_nature self.old }
-        ensures shown { hash_shown D.image self.new ≡ hash_shown D.image self.old }
+        ensures since { KeepsSince (HashKeptSince D.image D.may_leave D.past D.moment D.left_since D.left_with) self.old self.new }
+        ensures constants { hash_constants self.new ≡ hash_constants self.old }
+        ensures store_view { hash_view D.image self.new ≡ hash_view D.image self.old }
         ensures time { D.moment (hash_disk self.old) ≤ D.moment (hash_disk self.new) }
         ensures taken { D.taken_count (hash_disk self.old) ≤ D.taken_count (hash_disk self.new) }
         ensures cause { HasCause (D.fault_count (hash_disk self.old)) (D.fault_count (hash_disk self.new)) result }
@@ -110,34 +110,38 @@ impl<D: Disk> HashStore<D> {
             &self.found,
             changes,
         )?;
-        self.log.prepare(changes, &plan.links)?;
-        Ok(Staged {
+        self.log.reserve_text(changes, &plan.links)?;
+        Ok(ReservedGroup {
             heads: plan.heads,
             count: plan.count,
         })
     }
 
     /// Writes the group that was staged, under this number, and then the heads.
-    fn put_staged(&mut self, number: u64, staged: Staged) -> Result<(), StoreError>
+    fn put_reserved_group(
+        &mut self,
+        number: u64,
+        reserved_group: ReservedGroup,
+    ) -> Result<(), StoreError>
         requires whole { IsWhole (HashStands D.image D.may_leave D.past) self.old }
-        requires staged { (changes : List Changed) × IsStaged D.image self.old changes staged }
-        requires writable { (hash_nature self.old).writable ≡ true }
-        requires number { (hash_shown D.image self.old).floor ≤ number }
-        ensures stands { (changes : List Changed) → IsStaged D.image self.old changes staged → AllFit changes → IsClearAlone changes
+        requires reserved_group { (changes : List Changed) × IsReservedGroup D.image self.old changes reserved_group }
+        requires writable { (hash_constants self.old).writable ≡ true }
+        requires number { (hash_view D.image self.old).floor ≤ number }
+        ensures stands { (changes : List Changed) → IsReservedGroup D.image self.old changes reserved_group → AllFit changes → IsClearAlone changes
             → (first : First) (since : List Group) (hard : ℕ) → HashStands D.image D.may_leave D.past self.old first since hard
             → OnOk result (HashStands D.image D.may_leave D.past self.new first (since ++ record { number = number; changes = changes } ∷ []) hard) }
         ensures kept { (first : First) (since : List Group) (hard : ℕ) → HashStands D.image D.may_leave D.past self.old first since hard
             → KeepsGroups D.may_leave D.moment D.left_since (hash_head self.old) (groups_held first.held ++ take hard since) (hash_disk self.old) (hash_disk self.new) }
-        ensures fair { (changes : List Changed) → IsStaged D.image self.old changes staged
+        ensures fair { (changes : List Changed) → IsReservedGroup D.image self.old changes reserved_group
             → (first : First) (since : List Group) (hard : ℕ) → HashStands D.image D.may_leave D.past self.old first since hard
             → KeepsFair D.past D.moment D.left_with (hash_head self.old) (groups_held first.held ++ since)
             (record { number = number; changes = changes } ∷ []) (hash_disk self.old) (hash_disk self.new) }
-        ensures size { (changes : List Changed) → IsStaged D.image self.old changes staged
-            → OnOk result ((hash_shown D.image self.new).size ≡ (hash_shown D.image self.old).size + sum_by (change_extent 1) changes) }
-        ensures floor { OnOk result ((hash_shown D.image self.new).floor ≡ number + 1) }
-        ensures nature { hash_nature self.new ≡ hash_nature self.old }
+        ensures size { (changes : List Changed) → IsReservedGroup D.image self.old changes reserved_group
+            → OnOk result ((hash_view D.image self.new).size ≡ (hash_view D.image self.old).size + sum_by (change_extent 1) changes) }
+        ensures floor { OnOk result ((hash_view D.image self.new).floor ≡ number + 1) }
+        ensures constants { hash_constants self.new ≡ hash_constants self.old }
         ensures head { hash_head self.new ≡ hash_head self.old }
-        ensures open { (hash_shown D.image self.new).closed ≡ (hash_shown D.image self.old).closed }
+        ensures open { (hash_view D.image self.new).closed ≡ (hash_view D.image self.old).closed }
         ensures told { is_some (D.image (hash_disk self.new)) ≡ is_some (D.image (hash_disk self.old)) }
         ensures time { D.moment (hash_disk self.old) ≤ D.moment (hash_disk self.new) }
         ensures taken { D.taken_count (hash_disk self.new) ≡ D.taken_count (hash_disk self.old) }
@@ -146,10 +150,10 @@ impl<D: Disk> HashStore<D> {
     {
         self.shelf = None;
         self.found.forget();
-        told(self.log.append(number))?;
-        told(put_heads(&mut self.log, &staged.heads))?;
-        set_heads(&mut self.heads, &staged.heads);
-        self.count = staged.count;
+        as_store_error(self.log.append(number))?;
+        as_store_error(put_heads(&mut self.log, &reserved_group.heads))?;
+        set_heads(&mut self.heads, &reserved_group.heads);
+        self.count = reserved_group.count;
         self.last = Some(number);
         Ok(())
     }
@@ -157,8 +161,8 @@ impl<D: Disk> HashStore<D> {
     /// Makes it durable that the file is closed, with this next number.
     fn end_file(&mut self, next: u64) -> Result<(), StoreError>
         requires whole { IsWhole (HashStands D.image D.may_leave D.past) self.old }
-        requires writable { (hash_nature self.old).writable ≡ true }
-        requires closed { (hash_shown D.image self.old).closed ≡ true }
+        requires writable { (hash_constants self.old).writable ≡ true }
+        requires closed { (hash_view D.image self.old).closed ≡ true }
         ensures stands { (first : First) (since : List Group) (hard : ℕ) → HashStands D.image D.may_leave D.past self.old first since hard
             → OnOk result (HashStands D.image D.may_leave D.past self.new first since (length since)) }
         ensures kept { (first : First) (since : List Group) (hard : ℕ) → HashStands D.image D.may_leave D.past self.old first since hard
@@ -169,18 +173,18 @@ impl<D: Disk> HashStore<D> {
         ensures file { (groups since : List Group) (hard : ℕ) → HashStands D.image D.may_leave D.past self.old (opening groups) since hard
             → OnOk result (IfSome (D.image (hash_disk self.old)) (λ _. D.image (hash_disk self.new) ≡ Some (closed_text (hash_head self.old) (groups ++ since) next))) }
         ensures durable { OnOk result (IfSome (D.image (hash_disk self.new)) (λ f. Only f (D.may_leave (hash_disk self.new)))) }
-        ensures ended { OnOk result ((hash_shown D.image self.new).ended ≡ Some next) }
+        ensures ended { OnOk result ((hash_view D.image self.new).ended ≡ Some next) }
         ensures unended { OnErr result (hash_closing self.new ≡ hash_closing self.old) }
-        ensures nature { hash_nature self.new ≡ hash_nature self.old }
+        ensures constants { hash_constants self.new ≡ hash_constants self.old }
         ensures head { hash_head self.new ≡ hash_head self.old }
-        ensures closed { (hash_shown D.image self.new).closed ≡ (hash_shown D.image self.old).closed }
+        ensures closed { (hash_view D.image self.new).closed ≡ (hash_view D.image self.old).closed }
         ensures told { is_some (D.image (hash_disk self.new)) ≡ is_some (D.image (hash_disk self.old)) }
         ensures time { D.moment (hash_disk self.old) ≤ D.moment (hash_disk self.new) }
         ensures taken { D.taken_count (hash_disk self.new) ≡ D.taken_count (hash_disk self.old) }
         ensures cause { HasCause (D.fault_count (hash_disk self.old)) (D.fault_count (hash_disk self.new)) result }
         ensures answers { OkOrFault result }
     {
-        told(self.log.close_log(self.count, next))?;
+        as_store_error(self.log.close_log(self.count, next))?;
         self.closing = Closing {
             size: self.log.end(),
             count: self.count,
@@ -207,7 +211,7 @@ impl<D: Disk> HashStore<D> {
             buffer: _,
             found: _,
             shelf: _,
-            staged: _,
+            reserved_group: _,
         } = self;
         log.into_disk()
     }
@@ -215,22 +219,22 @@ impl<D: Disk> HashStore<D> {
 
 impl<D: Disk> SeqStore for HashStore<D> {
     ghost use Rattle.std.specs.Prelude.{true, Bool};
-    ghost use Rattle.tk_hash.specs.Hash.{hash_disk, hash_head, hash_nature, hash_shown, HashUntouched, HashStands, HashPrepared, HashSafe, HashStood, opening};
+    ghost use Rattle.tk_hash.specs.Hash.{hash_disk, hash_head, hash_constants, hash_view, HashUntouched, HashStands, HashReserved, HashSafe, HashKeptSince, opening};
     ghost use Rattle.tk_hash.specs.HashLaws.{hash_replays, hash_rising, hash_held, hash_stood_now, hash_stood_less, hash_safe_less, hash_by_extents, hash_unended, hash_values, hash_untouched_same, hash_untouched_then};
 
-    ghost nature = { hash_nature };
+    ghost constants = { hash_constants };
 
-    ghost shown = { hash_shown D.image };
+    ghost store_view = { hash_view D.image };
 
     ghost stands = { HashStands D.image D.may_leave D.past };
 
-    ghost prepared = { HashPrepared D.image };
+    ghost reserved = { HashReserved D.image };
 
     ghost moment = { λ s. D.moment (hash_disk s) };
 
     ghost safe = { HashSafe D.image D.left_since D.left_with };
 
-    ghost stood = { HashStood D.image D.may_leave D.past D.moment D.left_since D.left_with };
+    ghost kept_since = { HashKeptSince D.image D.may_leave D.past D.moment D.left_since D.left_with };
 
     ghost untouched = { HashUntouched D.image D.may_leave D.past D.moment D.left_since D.left_with };
 
@@ -317,9 +321,9 @@ impl<D: Disk> SeqStore for HashStore<D> {
 
     fn get_into(&mut self, key: &[u8], into: &mut [u8]) -> Result<Option<u32>, StoreError>
         requires whole { IsWhole (HashStands D.image D.may_leave D.past) self.old }
-        ensures value { IfSome (hash_shown D.image self.old).map (λ m. IfOk result (GivesInto (find key.now m) into.old into.new)) }
-        ensures cost { IfSome ((hash_shown D.image self.old).cost key.now) (λ most. D.taken_count (hash_disk self.new) ≤ D.taken_count (hash_disk self.old) + most) }
-        ensures looks { OnlyLooks hash_nature (hash_shown D.image) (HashStands D.image D.may_leave D.past) (HashStood D.image D.may_leave D.past D.moment D.left_since D.left_with)
+        ensures value { IfSome (hash_view D.image self.old).map (λ m. IfOk result (GivesInto (find key.now m) into.old into.new)) }
+        ensures cost { IfSome ((hash_view D.image self.old).cost key.now) (λ most. D.taken_count (hash_disk self.new) ≤ D.taken_count (hash_disk self.old) + most) }
+        ensures looks { OnlyLooks hash_constants (hash_view D.image) (HashStands D.image D.may_leave D.past) (HashKeptSince D.image D.may_leave D.past D.moment D.left_since D.left_with)
             (HashUntouched D.image D.may_leave D.past D.moment D.left_since D.left_with) (λ s. D.moment (hash_disk s)) (λ s. D.taken_count (hash_disk s)) self.old self.new }
         ensures cause { HasCause (D.fault_count (hash_disk self.old)) (D.fault_count (hash_disk self.new)) result }
         ensures answers { OkOrFault result }
@@ -350,7 +354,7 @@ impl<D: Disk> SeqStore for HashStore<D> {
     }
 
     fn reserve_group(&mut self, changes: &ChangeList) -> Result<(), StoreError> {
-        self.staged = None;
+        self.reserved_group = None;
         let size = self.log.end();
         let need = need_of(changes.as_slice())?;
         let limit = self.limit.min(LIMIT);
@@ -358,53 +362,53 @@ impl<D: Disk> SeqStore for HashStore<D> {
             return Err(StoreError::Full { size, need, limit });
         }
         if !changes.is_empty() {
-            self.staged = Some(self.stage(changes)?);
+            self.reserved_group = Some(self.reserve_changes(changes)?);
         }
         Ok(())
     }
 
     fn apply_reserved(&mut self, number: u64) -> Result<(), StoreError> {
-        match self.staged.take() {
-            Some(staged) => self.put_staged(number, staged),
+        match self.reserved_group.take() {
+            Some(reserved_group) => self.put_reserved_group(number, reserved_group),
             None => Ok(()),
         }
     }
 
     fn sync(&mut self, hard: bool) -> Result<(), StoreError> {
         if self.writable {
-            told(self.log.sync_log(hard))?;
+            as_store_error(self.log.sync_log(hard))?;
         }
         Ok(())
     }
 
     fn close(&mut self, next: u64) -> Result<(), StoreError>
         requires whole { IsWhole (HashStands D.image D.may_leave D.past) self.old }
-        requires open { (hash_shown D.image self.old).closed ≡ false }
-        requires number { (hash_nature self.old).writable ≡ true → (hash_shown D.image self.old).floor ≤ next }
-        requires below { (hash_nature self.old).writable ≡ true → next < 2 ^ 64 - 1 }
+        requires open { (hash_view D.image self.old).closed ≡ false }
+        requires number { (hash_constants self.old).writable ≡ true → (hash_view D.image self.old).floor ≤ next }
+        requires below { (hash_constants self.old).writable ≡ true → next < 2 ^ 64 - 1 }
         ensures stands { (first : First) (since : List Group) (hard : ℕ) → HashStands D.image D.may_leave D.past self.old first since hard
-            → OnOk result (HashStands D.image D.may_leave D.past self.new first (since ++ made (hash_nature self.old) next []) (length (since ++ made (hash_nature self.old) next []))) }
-        ensures map { UnlessFault result ((hash_shown D.image self.new).map ≡ (hash_shown D.image self.old).map) }
-        ensures since { (t n : ℕ) (first : First) (since : List Group) (hard : ℕ) → HashStood D.image D.may_leave D.past D.moment D.left_since D.left_with self.old t n first since hard
-            → OnOk result (HashStood D.image D.may_leave D.past D.moment D.left_since D.left_with self.new t n first (since ++ made (hash_nature self.old) next []) (length (since ++ made (hash_nature self.old) next []))) }
-        ensures safe { LeavesSafe (HashStood D.image D.may_leave D.past D.moment D.left_since D.left_with) (HashSafe D.image D.left_since D.left_with) (made (hash_nature self.old) next []) self.old self.new }
-        ensures closed { (hash_shown D.image self.new).closed ≡ true }
-        ensures ended { OnOk result ((hash_shown D.image self.new).ended ≡ ended_by (hash_nature self.old) next) }
-        ensures unended { OnErr result ((hash_shown D.image self.new).ended ≡ None) }
-        ensures kept { OnNoMemory result (Keeps (HashStands D.image D.may_leave D.past) self.old self.new × KeepsSince (HashStood D.image D.may_leave D.past D.moment D.left_since D.left_with) self.old self.new) }
-        ensures goes_on { GoesOn hash_nature (hash_shown D.image) (λ s. D.moment (hash_disk s)) (λ s. D.taken_count (hash_disk s)) self.old self.new }
+            → OnOk result (HashStands D.image D.may_leave D.past self.new first (since ++ groups_made_by (hash_constants self.old) next []) (length (since ++ groups_made_by (hash_constants self.old) next []))) }
+        ensures map { UnlessFault result ((hash_view D.image self.new).map ≡ (hash_view D.image self.old).map) }
+        ensures since { (t n : ℕ) (first : First) (since : List Group) (hard : ℕ) → HashKeptSince D.image D.may_leave D.past D.moment D.left_since D.left_with self.old t n first since hard
+            → OnOk result (HashKeptSince D.image D.may_leave D.past D.moment D.left_since D.left_with self.new t n first (since ++ groups_made_by (hash_constants self.old) next []) (length (since ++ groups_made_by (hash_constants self.old) next []))) }
+        ensures safe { LeavesSafe (HashKeptSince D.image D.may_leave D.past D.moment D.left_since D.left_with) (HashSafe D.image D.left_since D.left_with) (groups_made_by (hash_constants self.old) next []) self.old self.new }
+        ensures closed { (hash_view D.image self.new).closed ≡ true }
+        ensures ended { OnOk result ((hash_view D.image self.new).ended ≡ ended_by (hash_constants self.old) next) }
+        ensures unended { OnErr result ((hash_view D.image self.new).ended ≡ None) }
+        ensures kept { OnNoMemory result (Keeps (HashStands D.image D.may_leave D.past) self.old self.new × KeepsSince (HashKeptSince D.image D.may_leave D.past D.moment D.left_since D.left_with) self.old self.new) }
+        ensures goes_on { GoesOn hash_constants (hash_view D.image) (λ s. D.moment (hash_disk s)) (λ s. D.taken_count (hash_disk s)) self.old self.new }
         ensures cause { HasCause (D.fault_count (hash_disk self.old)) (D.fault_count (hash_disk self.new)) result }
         ensures never { NeverFull result }
         ensures answers { OkOrFault result }
         ensures file { (groups since : List Group) (hard : ℕ) → HashStands D.image D.may_leave D.past self.old (opening groups) since hard
             → OnOk result (IfSome (D.image (hash_disk self.old)) (λ _. D.image (hash_disk self.new)
-            ≡ Some (if (hash_nature self.old).writable then closed_text (hash_head self.old) (groups ++ since) next else closed_text (hash_head self.old) groups (hash_nature self.old).next))) }
-        ensures durable { (hash_nature self.old).writable ≡ true → OnOk result (IfSome (D.image (hash_disk self.new)) (λ f. Only f (D.may_leave (hash_disk self.new)))) }
-        ensures reads { (hash_nature self.old).writable ≡ false → HashUntouched D.image D.may_leave D.past D.moment D.left_since D.left_with self.old self.new }
+            ≡ Some (if (hash_constants self.old).writable then closed_text (hash_head self.old) (groups ++ since) next else closed_text (hash_head self.old) groups (hash_constants self.old).next))) }
+        ensures durable { (hash_constants self.old).writable ≡ true → OnOk result (IfSome (D.image (hash_disk self.new)) (λ f. Only f (D.may_leave (hash_disk self.new)))) }
+        ensures reads { (hash_constants self.old).writable ≡ false → HashUntouched D.image D.may_leave D.past D.moment D.left_since D.left_with self.old self.new }
         ensures told { is_some (D.image (hash_disk self.new)) ≡ is_some (D.image (hash_disk self.old)) }
     {
         self.closed = true;
-        self.staged = None;
+        self.reserved_group = None;
         if self.writable {
             self.end_file(next)?;
         }

@@ -3,7 +3,7 @@ ghost use Rattle.tk_model.specs.declared.record.Change.TheVariants.{Put};
 ghost use Rattle.tk_model.specs.Records.{IsClearAlone};
 ghost use Rattle.tk_disk.specs.MemDisk.{mem_bytes, mem_image, mem_past, MemMayLeave};
 ghost use Rattle.tk_store.specs.Store.{IsWhole, AllFitWithin};
-ghost use Rattle.tk_hash.specs.Hash.{hash_nature, hash_shown, HashStands};
+ghost use Rattle.tk_hash.specs.Hash.{hash_constants, hash_view, HashStands};
 
 use super::*;
 use std::alloc::{AllocError, Global};
@@ -40,9 +40,9 @@ pub(crate) fn fresh(
 ) -> Result<HashStore<MemDisk>, OpenError>
     requires p { p ≤ 24 }
     ensures whole { IfOk result (IsWhole (HashStands mem_image MemMayLeave mem_past)) }
-    ensures open { IfOk result (λ s. (hash_shown mem_image s).closed ≡ false) }
-    ensures writable { IfOk result (λ s. (hash_nature s).writable ≡ true) }
-    ensures floor { IfOk result (λ s. (hash_shown mem_image s).floor ≤ 0) }
+    ensures open { IfOk result (λ s. (hash_view mem_image s).closed ≡ false) }
+    ensures writable { IfOk result (λ s. (hash_constants s).writable ≡ true) }
+    ensures floor { IfOk result (λ s. (hash_view mem_image s).floor ≤ 0) }
 {
     let disk = disk_of(alloc, b"", faults)?;
     match HashStore::create_file(alloc, disk, p, limit, ALONE) {
@@ -75,14 +75,14 @@ pub(crate) fn set<S: SeqStore>(
     value: &[u8],
 ) -> Result<(), StoreError>
     requires whole { IsWhole S.stands store.old }
-    requires open { (S.shown store.old).closed ≡ false }
-    requires writable { (S.nature store.old).writable ≡ true }
-    requires number { (S.shown store.old).floor ≤ number }
+    requires open { (S.store_view store.old).closed ≡ false }
+    requires writable { (S.constants store.old).writable ≡ true }
+    requires number { (S.store_view store.old).floor ≤ number }
     requires key { length key.now ≤ 65535 }
     ensures whole { OnOk result (IsWhole S.stands store.new) }
-    ensures open { (S.shown store.new).closed ≡ false }
-    ensures writable { (S.nature store.new).writable ≡ true }
-    ensures floor { OnOk result ((S.shown store.new).floor ≤ number + 1) }
+    ensures open { (S.store_view store.new).closed ≡ false }
+    ensures writable { (S.constants store.new).writable ≡ true }
+    ensures floor { OnOk result ((S.store_view store.new).floor ≤ number + 1) }
 {
     let mut setter = Setter::new(Bytes::from_slice(alloc, value)?);
     run_on(alloc, store, number, key, &mut setter)?;
@@ -96,14 +96,14 @@ fn remove<S: SeqStore>(
     key: &[u8],
 ) -> Result<(), StoreError>
     requires whole { IsWhole S.stands store.old }
-    requires open { (S.shown store.old).closed ≡ false }
-    requires writable { (S.nature store.old).writable ≡ true }
-    requires number { (S.shown store.old).floor ≤ number }
+    requires open { (S.store_view store.old).closed ≡ false }
+    requires writable { (S.constants store.old).writable ≡ true }
+    requires number { (S.store_view store.old).floor ≤ number }
     requires key { length key.now ≤ 65535 }
     ensures whole { OnOk result (IsWhole S.stands store.new) }
-    ensures open { (S.shown store.new).closed ≡ false }
-    ensures writable { (S.nature store.new).writable ≡ true }
-    ensures floor { OnOk result ((S.shown store.new).floor ≤ number + 1) }
+    ensures open { (S.store_view store.new).closed ≡ false }
+    ensures writable { (S.constants store.new).writable ≡ true }
+    ensures floor { OnOk result ((S.store_view store.new).floor ≤ number + 1) }
 {
     let mut remover = Remover::new();
     run_on(alloc, store, number, key, &mut remover)?;
@@ -120,8 +120,8 @@ fn reads_into<S: SeqStore>(
 ) -> Result<bool, Fail>
     requires whole { IsWhole S.stands store.old }
     ensures whole { IsWhole S.stands store.new }
-    ensures shown { S.shown store.new ≡ S.shown store.old }
-    ensures nature { S.nature store.new ≡ S.nature store.old }
+    ensures store_view { S.store_view store.new ≡ S.store_view store.old }
+    ensures constants { S.constants store.new ≡ S.constants store.old }
 {
     let mut into = Vec::new(alloc);
     into.resize(room, 7)?;
@@ -137,8 +137,8 @@ fn reads_into<S: SeqStore>(
 fn has<S: SeqStore>(alloc: Global, store: &mut S, key: &[u8], value: &[u8]) -> Result<bool, Fail>
     requires whole { IsWhole S.stands store.old }
     ensures whole { IsWhole S.stands store.new }
-    ensures shown { S.shown store.new ≡ S.shown store.old }
-    ensures nature { S.nature store.new ≡ S.nature store.old }
+    ensures store_view { S.store_view store.new ≡ S.store_view store.old }
+    ensures constants { S.constants store.new ≡ S.constants store.old }
 {
     let mut found = Bytes::from_slice(alloc, b"other")?;
     let there = store.get(key, &mut found)?;
@@ -156,8 +156,8 @@ fn has<S: SeqStore>(alloc: Global, store: &mut S, key: &[u8], value: &[u8]) -> R
 fn lacks<S: SeqStore>(alloc: Global, store: &mut S, key: &[u8]) -> Result<bool, Fail>
     requires whole { IsWhole S.stands store.old }
     ensures whole { IsWhole S.stands store.new }
-    ensures shown { S.shown store.new ≡ S.shown store.old }
-    ensures nature { S.nature store.new ≡ S.nature store.old }
+    ensures store_view { S.store_view store.new ≡ S.store_view store.old }
+    ensures constants { S.constants store.new ≡ S.constants store.old }
 {
     let mut found = Bytes::from_slice(alloc, b"other")?;
     let there = store.get(key, &mut found)?;
@@ -169,8 +169,8 @@ fn lacks<S: SeqStore>(alloc: Global, store: &mut S, key: &[u8]) -> Result<bool, 
 fn step<S: SeqStore>(store: &mut S, way: Way, bound: &Bound) -> Result<Option<Pair>, StoreError>
     requires whole { IsWhole S.stands store.old }
     ensures whole { IsWhole S.stands store.new }
-    ensures shown { S.shown store.new ≡ S.shown store.old }
-    ensures nature { S.nature store.new ≡ S.nature store.old }
+    ensures store_view { S.store_view store.new ≡ S.store_view store.old }
+    ensures constants { S.constants store.new ≡ S.constants store.old }
 {
     match way {
         Way::Up => store.next(bound),
@@ -182,8 +182,8 @@ fn step<S: SeqStore>(store: &mut S, way: Way, bound: &Bound) -> Result<Option<Pa
 fn walked<S: SeqStore>(alloc: Global, store: &mut S, way: Way) -> Result<Bytes, NoMemory>
     requires whole { IsWhole S.stands store.old }
     ensures whole { IsWhole S.stands store.new }
-    ensures shown { S.shown store.new ≡ S.shown store.old }
-    ensures nature { S.nature store.new ≡ S.nature store.old }
+    ensures store_view { S.store_view store.new ≡ S.store_view store.old }
+    ensures constants { S.constants store.new ≡ S.constants store.old }
 {
     let mut text = Bytes::new(alloc);
     let mut bound = Bound::Edge;
@@ -201,13 +201,13 @@ fn walked<S: SeqStore>(alloc: Global, store: &mut S, way: Way) -> Result<Bytes, 
 /// Sets and removes: two records are left.
 fn five_calls<S: SeqStore>(alloc: Global, store: &mut S) -> Result<(), StoreError>
     requires whole { IsWhole S.stands store.old }
-    requires open { (S.shown store.old).closed ≡ false }
-    requires writable { (S.nature store.old).writable ≡ true }
-    requires number { (S.shown store.old).floor ≤ 0 }
+    requires open { (S.store_view store.old).closed ≡ false }
+    requires writable { (S.constants store.old).writable ≡ true }
+    requires number { (S.store_view store.old).floor ≤ 0 }
     ensures whole { OnOk result (IsWhole S.stands store.new) }
-    ensures open { OnOk result ((S.shown store.new).closed ≡ false) }
-    ensures writable { OnOk result ((S.nature store.new).writable ≡ true) }
-    ensures floor { OnOk result ((S.shown store.new).floor ≤ 5) }
+    ensures open { OnOk result ((S.store_view store.new).closed ≡ false) }
+    ensures writable { OnOk result ((S.constants store.new).writable ≡ true) }
+    ensures floor { OnOk result ((S.store_view store.new).floor ≤ 5) }
 {
     set(alloc, store, 0, b"a", b"1")?;
     set(alloc, store, 1, b"b", b"22")?;
@@ -220,8 +220,8 @@ fn five_calls<S: SeqStore>(alloc: Global, store: &mut S) -> Result<(), StoreErro
 fn has_two<S: SeqStore>(alloc: Global, store: &mut S) -> Result<bool, Fail>
     requires whole { IsWhole S.stands store.old }
     ensures whole { IsWhole S.stands store.new }
-    ensures shown { S.shown store.new ≡ S.shown store.old }
-    ensures nature { S.nature store.new ≡ S.nature store.old }
+    ensures store_view { S.store_view store.new ≡ S.store_view store.old }
+    ensures constants { S.constants store.new ≡ S.constants store.old }
 {
     let up = walked(alloc, store, Way::Up)?;
     let down = walked(alloc, store, Way::Down)?;
@@ -245,9 +245,9 @@ fn tells<S: SeqStore>(store: &S, next: u64) -> bool {
 /// Makes the five calls, and closes the store.
 fn makes_two<S: SeqStore>(alloc: Global, store: &mut S) -> Result<bool, Fail>
     requires whole { IsWhole S.stands store.old }
-    requires open { (S.shown store.old).closed ≡ false }
-    requires writable { (S.nature store.old).writable ≡ true }
-    requires number { (S.shown store.old).floor ≤ 0 }
+    requires open { (S.store_view store.old).closed ≡ false }
+    requires writable { (S.constants store.old).writable ≡ true }
+    requires number { (S.store_view store.old).floor ≤ 0 }
 {
     five_calls(alloc, store)?;
     let right = has_two(alloc, store)?;
@@ -276,13 +276,13 @@ fn records_of_one_bucket(rt: HostRuntime) -> Result<(), Fail> {
 /// Sets eight keys, each to itself.
 fn fill<S: SeqStore>(alloc: Global, store: &mut S) -> Result<(), StoreError>
     requires whole { IsWhole S.stands store.old }
-    requires open { (S.shown store.old).closed ≡ false }
-    requires writable { (S.nature store.old).writable ≡ true }
-    requires number { (S.shown store.old).floor ≤ 0 }
+    requires open { (S.store_view store.old).closed ≡ false }
+    requires writable { (S.constants store.old).writable ≡ true }
+    requires number { (S.store_view store.old).floor ≤ 0 }
     ensures whole { OnOk result (IsWhole S.stands store.new) }
-    ensures open { OnOk result ((S.shown store.new).closed ≡ false) }
-    ensures writable { OnOk result ((S.nature store.new).writable ≡ true) }
-    ensures floor { OnOk result ((S.shown store.new).floor ≤ 8) }
+    ensures open { OnOk result ((S.store_view store.new).closed ≡ false) }
+    ensures writable { OnOk result ((S.constants store.new).writable ≡ true) }
+    ensures floor { OnOk result ((S.store_view store.new).floor ≤ 8) }
 {
     for i in 0..8u8 {
         let key = [b'a' + i];
@@ -294,9 +294,9 @@ fn fill<S: SeqStore>(alloc: Global, store: &mut S) -> Result<(), StoreError>
 /// Fills the store, walks both ways and closes it.
 fn fills<S: SeqStore>(alloc: Global, store: &mut S) -> Result<bool, Fail>
     requires whole { IsWhole S.stands store.old }
-    requires open { (S.shown store.old).closed ≡ false }
-    requires writable { (S.nature store.old).writable ≡ true }
-    requires number { (S.shown store.old).floor ≤ 0 }
+    requires open { (S.store_view store.old).closed ≡ false }
+    requires writable { (S.constants store.old).writable ≡ true }
+    requires number { (S.store_view store.old).floor ≤ 0 }
 {
     fill(alloc, store)?;
     let up = walked(alloc, store, Way::Up)?;
@@ -367,15 +367,15 @@ fn clearing(alloc: Global) -> Result<ChangeList, NoMemory>
 /// Makes a group, and answers what it needed.
 fn apply<S: SeqStore>(store: &mut S, number: u64, changes: &ChangeList) -> Result<u64, StoreError>
     requires whole { IsWhole S.stands store.old }
-    requires open { (S.shown store.old).closed ≡ false }
-    requires writable { (S.nature store.old).writable ≡ true }
-    requires number { (S.shown store.old).floor ≤ number }
+    requires open { (S.store_view store.old).closed ≡ false }
+    requires writable { (S.constants store.old).writable ≡ true }
+    requires number { (S.store_view store.old).floor ≤ number }
     requires alone { IsClearAlone changes.now }
     requires fit { AllFitWithin 16777215 changes.now }
     ensures whole { OnOk result (IsWhole S.stands store.new) }
-    ensures open { OnOk result ((S.shown store.new).closed ≡ false) }
-    ensures writable { OnOk result ((S.nature store.new).writable ≡ true) }
-    ensures floor { OnOk result ((S.shown store.new).floor ≤ number + 1) }
+    ensures open { OnOk result ((S.store_view store.new).closed ≡ false) }
+    ensures writable { OnOk result ((S.constants store.new).writable ≡ true) }
+    ensures floor { OnOk result ((S.store_view store.new).floor ≤ number + 1) }
 {
     let need = store.check_group(changes)?;
     store.reserve_group(changes)?;
@@ -386,9 +386,9 @@ fn apply<S: SeqStore>(store: &mut S, number: u64, changes: &ChangeList) -> Resul
 /// Makes one group of several changes, and closes the store.
 fn makes_a_group<S: SeqStore>(alloc: Global, store: &mut S) -> Result<bool, Fail>
     requires whole { IsWhole S.stands store.old }
-    requires open { (S.shown store.old).closed ≡ false }
-    requires writable { (S.nature store.old).writable ≡ true }
-    requires number { (S.shown store.old).floor ≤ 0 }
+    requires open { (S.store_view store.old).closed ≡ false }
+    requires writable { (S.constants store.old).writable ≡ true }
+    requires number { (S.store_view store.old).floor ≤ 0 }
 {
     let changes = mixed_changes(alloc)?;
     let need = apply(store, 3, &changes)?;
@@ -414,9 +414,9 @@ fn a_group_of_several_changes(rt: HostRuntime) -> Result<(), Fail> {
 /// Reads of a store that was cleared find nothing of before, and take no more bytes than the new records need.
 fn clears<S: SeqStore>(alloc: Global, store: &mut S) -> Result<bool, Fail>
     requires whole { IsWhole S.stands store.old }
-    requires open { (S.shown store.old).closed ≡ false }
-    requires writable { (S.nature store.old).writable ≡ true }
-    requires number { (S.shown store.old).floor ≤ 0 }
+    requires open { (S.store_view store.old).closed ≡ false }
+    requires writable { (S.constants store.old).writable ≡ true }
+    requires number { (S.store_view store.old).floor ≤ 0 }
 {
     fill(alloc, store)?;
     let changes = clearing(alloc)?;
@@ -461,9 +461,9 @@ fn long_bytes(alloc: Global, len: u32, last: u8) -> Result<Bytes, Fail> {
 /// Sets the longest keys, which differ in the last byte, and a value that is longer than what is read at once.
 fn holds_long<S: SeqStore>(alloc: Global, store: &mut S) -> Result<bool, Fail>
     requires whole { IsWhole S.stands store.old }
-    requires open { (S.shown store.old).closed ≡ false }
-    requires writable { (S.nature store.old).writable ≡ true }
-    requires number { (S.shown store.old).floor ≤ 0 }
+    requires open { (S.store_view store.old).closed ≡ false }
+    requires writable { (S.constants store.old).writable ≡ true }
+    requires number { (S.store_view store.old).floor ≤ 0 }
 {
     let key = long_bytes(alloc, 65_534, 1)?;
     let other = long_bytes(alloc, 65_534, 2)?;
@@ -499,14 +499,14 @@ fn refused_set<S: SeqStore>(
     key: &[u8],
 ) -> Result<Option<(u64, u64, u64)>, StoreError>
     requires whole { IsWhole S.stands store.old }
-    requires open { (S.shown store.old).closed ≡ false }
-    requires writable { (S.nature store.old).writable ≡ true }
-    requires number { (S.shown store.old).floor ≤ number }
+    requires open { (S.store_view store.old).closed ≡ false }
+    requires writable { (S.constants store.old).writable ≡ true }
+    requires number { (S.store_view store.old).floor ≤ number }
     requires key { length key.now ≤ 65535 }
     ensures whole { OnOk result (IsWhole S.stands store.new) }
-    ensures open { (S.shown store.new).closed ≡ false }
-    ensures writable { (S.nature store.new).writable ≡ true }
-    ensures floor { OnOk result ((S.shown store.new).floor ≤ number + 1) }
+    ensures open { (S.store_view store.new).closed ≡ false }
+    ensures writable { (S.constants store.new).writable ≡ true }
+    ensures floor { OnOk result ((S.store_view store.new).floor ≤ number + 1) }
 {
     let mut setter = Setter::new(Bytes::new(alloc));
     match run_on(alloc, store, number, key, &mut setter) {
@@ -519,9 +519,9 @@ fn refused_set<S: SeqStore>(
 /// Fills a store up to its limit, which has room for two blocks. A list without changes is never refused.
 fn stops_at_the_limit<S: SeqStore>(alloc: Global, store: &mut S) -> Result<bool, Fail>
     requires whole { IsWhole S.stands store.old }
-    requires open { (S.shown store.old).closed ≡ false }
-    requires writable { (S.nature store.old).writable ≡ true }
-    requires number { (S.shown store.old).floor ≤ 0 }
+    requires open { (S.store_view store.old).closed ≡ false }
+    requires writable { (S.constants store.old).writable ≡ true }
+    requires number { (S.store_view store.old).floor ≤ 0 }
 {
     set(alloc, store, 0, b"a", b"1")?;
     set(alloc, store, 1, b"b", b"2")?;
@@ -554,8 +554,8 @@ fn the_limit(rt: HostRuntime) -> Result<(), Fail> {
 fn all_reads<S: SeqStore>(alloc: Global, store: &mut S) -> Result<(), StoreError>
     requires whole { IsWhole S.stands store.old }
     ensures whole { IsWhole S.stands store.new }
-    ensures shown { S.shown store.new ≡ S.shown store.old }
-    ensures nature { S.nature store.new ≡ S.nature store.old }
+    ensures store_view { S.store_view store.new ≡ S.store_view store.old }
+    ensures constants { S.constants store.new ≡ S.constants store.old }
 {
     let mut value = Bytes::new(alloc);
     let mut into = [0; 2];
@@ -569,10 +569,10 @@ fn all_reads<S: SeqStore>(alloc: Global, store: &mut S) -> Result<(), StoreError
 /// Makes all durable.
 pub(crate) fn sync_hard(store: &mut HashStore<MemDisk>) -> Result<(), StoreError>
     requires whole { IsWhole (HashStands mem_image MemMayLeave mem_past) store.old }
-    requires open { (hash_shown mem_image store.old).closed ≡ false }
+    requires open { (hash_view mem_image store.old).closed ≡ false }
     ensures whole { OnOk result (IsWhole (HashStands mem_image MemMayLeave mem_past) store.new) }
-    ensures shown { OnOk result (hash_shown mem_image store.new ≡ hash_shown mem_image store.old) }
-    ensures nature { hash_nature store.new ≡ hash_nature store.old }
+    ensures store_view { OnOk result (hash_view mem_image store.new ≡ hash_view mem_image store.old) }
+    ensures constants { hash_constants store.new ≡ hash_constants store.old }
 {
     store.sync(true)?;
     Ok(())
@@ -581,9 +581,9 @@ pub(crate) fn sync_hard(store: &mut HashStore<MemDisk>) -> Result<(), StoreError
 /// Each kind of call that reads or writes.
 fn all_calls(alloc: Global, store: &mut HashStore<MemDisk>) -> Result<(), StoreError>
     requires whole { IsWhole (HashStands mem_image MemMayLeave mem_past) store.old }
-    requires open { (hash_shown mem_image store.old).closed ≡ false }
-    requires writable { (hash_nature store.old).writable ≡ true }
-    requires number { (hash_shown mem_image store.old).floor ≤ 0 }
+    requires open { (hash_view mem_image store.old).closed ≡ false }
+    requires writable { (hash_constants store.old).writable ≡ true }
+    requires number { (hash_view mem_image store.old).floor ≤ 0 }
 {
     five_calls(alloc, store)?;
     all_reads(alloc, store)?;
@@ -642,9 +642,9 @@ fn refusal(alloc: Global, bytes: &[u8], faults: &[u64]) -> Result<Option<OpenErr
 
 fn makes_one<S: SeqStore>(alloc: Global, store: &mut S) -> Result<(), StoreError>
     requires whole { IsWhole S.stands store.old }
-    requires open { (S.shown store.old).closed ≡ false }
-    requires writable { (S.nature store.old).writable ≡ true }
-    requires number { (S.shown store.old).floor ≤ 0 }
+    requires open { (S.store_view store.old).closed ≡ false }
+    requires writable { (S.constants store.old).writable ≡ true }
+    requires number { (S.store_view store.old).floor ≤ 0 }
 {
     set(alloc, store, 0, b"a", b"1")?;
     store.close(1)

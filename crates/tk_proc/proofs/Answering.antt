@@ -13,7 +13,7 @@ use Rattle.tk_model.specs.declared.record.Touch.{Touch}
 use Rattle.tk_model.specs.declared.record.Action.{Action}
 use Rattle.tk_model.specs.Entries.{changes_of}
 use Rattle.tk_model.specs.declared.record.Entry.TheVariants as entries
-use Rattle.tk_proc.specs.Runs.{counted, is_long, first_long, kept, touches_by, status_by, keys_of, short_status, run_touches, keys_entry, each_entry, run_status, run_state, each_status, each_state, found_status, found_state, next_status, next_state}
+use Rattle.tk_proc.specs.Runs.{counted, is_long, first_long, kept, touches_by, status_by, keys_of, status_unless_long, run_touches, keys_entry, each_entry, run_status, run_state, each_status, each_state, found_status, found_state, next_status, next_state}
 use Rattle.tk_proc.proofs.LegalRuns.{AllFound, all_found}
 
 -- the first that is too long, of one
@@ -53,7 +53,7 @@ named_found o Up b m q rising e = first_found o b m m q (all_found o m rising) e
 named_found o Down b m q rising e = last_found o b m m q (all_found o m rising) e
 
 module _ {S : Type 0} (acts : S → List ℕ → Option (List ℕ) → Action) (turns : S → List ℕ → Option (List ℕ) → S) where
-  pub one_status : (o : Order) (w : Bool) (s : S) (k : List ℕ) (m : List Pair) → run_status acts turns o w s (k ∷ []) m ≡ short_status (counted w (acts s k (find k m)))
+  pub one_status : (o : Order) (w : Bool) (s : S) (k : List ℕ) (m : List Pair) → run_status acts turns o w s (k ∷ []) m ≡ status_unless_long (counted w (acts s k (find k m)))
   one_status o w s k m = one_long (is_long (counted w (acts s k (find k m)))) (stored (counted w (acts s k (find k m))))
 
   pub keys_long : (o : Order) (w : Bool) (s : S) (ks : List (List ℕ)) (m : List Pair) (n : ℕ) → run_status acts turns o w s ks m ≡ TooLong n → changes_of o m (keys_entry acts turns o w s ks m) ≡ []
@@ -66,7 +66,7 @@ module _ {S : Type 0} (acts : S → List ℕ → Option (List ℕ) → Action) (
       → next_status acts turns o w s way b m ≡ run_status acts turns o w s (p.key ∷ []) m
   next_status_is o w s way b m p rising is =
       ap (λ (r : Option Pair). found_status acts turns w s r) is
-      ∙ ap (λ (was : Option (List ℕ)). short_status (counted w (acts s p.key was))) (sym (named_found o way b m p rising is)) ∙ sym (one_status o w s p.key m)
+      ∙ ap (λ (was : Option (List ℕ)). status_unless_long (counted w (acts s p.key was))) (sym (named_found o way b m p rising is)) ∙ sym (one_status o w s p.key m)
 
   pub next_state_is : (o : Order) (w : Bool) (s : S) (way : Way) (b : Bound) (m : List Pair) (p : Pair) → Rising o m → named o way b m ≡ Some p
       → next_state acts turns o s way b m ≡ run_state acts turns o w s (p.key ∷ []) m

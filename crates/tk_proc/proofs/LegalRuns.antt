@@ -20,7 +20,7 @@ use Rattle.tk_model.specs.declared.record.Action.{Action}
 use Rattle.tk_model.specs.declared.record.Action.TheVariants.{Keep, Put, Drop}
 use Rattle.tk_model.specs.declared.record.Entry.TheVariants as entries
 use Rattle.std.specs.declared.cmp.Ordering.TheVariants.{Less}
-use Rattle.tk_proc.specs.Runs.{counted, is_long, first_long, kept, touches_by, keys_of, short, action_changes, run_touches, keys_entry, each_entry, found_entry, next_entry}
+use Rattle.tk_proc.specs.Runs.{counted, is_long, first_long, kept, touches_by, keys_of, unless_long, action_changes, run_touches, keys_entry, each_entry, found_entry, next_entry}
 use Rattle.tk_proc.specs.RunLaws.{AllShort}
 
 -- ---- tests
@@ -49,7 +49,7 @@ none_rest : (b : Bool) (n : ℕ) (rest : Option ℕ) → (if b then Some n else 
 none_rest true n rest e = absurd (cc)
 none_rest false n rest e = e
 
-pub short_stores : (a : Action) → stored (short a) ≤ 16777215
+pub short_stores : (a : Action) → stored (unless_long a) ≤ 16777215
 short_stores a = by (is_long a) refl
   where
     by : (b : Bool) → is_long a ≡ b → stored (if b then Keep else a) ≤ 16777215
@@ -200,7 +200,7 @@ module _ {S : Type 0} (acts : S → List ℕ → Option (List ℕ) → Action) (
       → is_legal o m (found_entry acts turns w s way b r) ≡ true
   found_legal o w s way b m None e held = rw (← e) refl
   found_legal o w s way b m (Some p) e held =
-      let a : Action = short (counted w (acts s p.key (Some p.value))) in
+      let a : Action = unless_long (counted w (acts s p.key (Some p.value))) in
       let same : same_record (Some p) (named o way b m) ≡ true =
       subst (λ r. same_record (Some p) r ≡ true) e (both (same_bytes p.key p.key) (same_bytes p.value p.value) (same_itself p.key) (same_itself p.value)) in
       let fit : fits (record { key = p.key; was = Some p.value; action = a }) ≡ true =
@@ -211,5 +211,5 @@ module _ {S : Type 0} (acts : S → List ℕ → Option (List ℕ) → Action) (
   next_legal o w s way b m held = found_legal o w s way b m (named o way b m) refl held
 
   pub one_key_changes : (o : Order) (w : Bool) (s : S) (k : List ℕ) (m : List Pair) → Rising o m
-      → changes_of o m (keys_entry acts turns o w s (k ∷ []) m) ≡ action_changes k (find k m) (short (counted w (acts s k (find k m))))
+      → changes_of o m (keys_entry acts turns o w s (k ∷ []) m) ≡ action_changes k (find k m) (unless_long (counted w (acts s k (find k m))))
   one_key_changes o w s k m rising = short_changes o k (counted w (acts s k (find k m))) (is_long (counted w (acts s k (find k m)))) m rising

@@ -1,7 +1,7 @@
 -- What every run of a processor keeps.
 use Rattle.std.specs.Prelude.{◌≡◌, ℕ, ◌≤◌, Bool, true, List, [], ◌∷◌, length, Option, Some, None}
 use Rattle.tk_status.specs.declared.Status.TheVariants.{NotFound, TooLong}
-use Rattle.tk_proc.specs.Runs.{keys_entry, each_entry, next_entry, action_changes, counted, short, short_status}
+use Rattle.tk_proc.specs.Runs.{keys_entry, each_entry, next_entry, action_changes, counted, unless_long, status_unless_long}
 use Rattle.tk_proc.specs.Runs.{run_status, run_state, each_status, each_state, next_status, next_state}
 use Rattle.tk_model.specs.Records.{find, named, Rising, AllHeld}
 use Rattle.tk_model.specs.Entries.{is_legal, changes_of}
@@ -26,12 +26,12 @@ module _ {S : Type 0} (acts : S → List ℕ → Option (List ℕ) → Action) (
   -- a run at one key changes that key alone
   pub record OneKeyChanges (o : Order) : Type 0 where
     pub changes : (writable : Bool) (s : S) (k : List ℕ) (m : List Pair) → Rising o m
-        → changes_of o m (keys_entry acts turns o writable s (k ∷ []) m) ≡ action_changes k (find k m) (short (counted writable (acts s k (find k m))))
+        → changes_of o m (keys_entry acts turns o writable s (k ∷ []) m) ≡ action_changes k (find k m) (unless_long (counted writable (acts s k (find k m))))
 
   -- what a run answers, and the processor after it
   pub record RunsAnswer (o : Order) : Type 0 where
     -- at one key
-    pub one_status : (writable : Bool) (s : S) (k : List ℕ) (m : List Pair) → run_status acts turns o writable s (k ∷ []) m ≡ short_status (counted writable (acts s k (find k m)))
+    pub one_status : (writable : Bool) (s : S) (k : List ℕ) (m : List Pair) → run_status acts turns o writable s (k ∷ []) m ≡ status_unless_long (counted writable (acts s k (find k m)))
     pub one_state : (writable : Bool) (s : S) (k : List ℕ) (m : List Pair) → run_state acts turns o writable s (k ∷ []) m ≡ turns s k (find k m)
     -- a run that meets a value that is too long changes nothing
     pub keys_long : (writable : Bool) (s : S) (ks : List (List ℕ)) (m : List Pair) (n : ℕ) → run_status acts turns o writable s ks m ≡ TooLong n → changes_of o m (keys_entry acts turns o writable s ks m) ≡ []

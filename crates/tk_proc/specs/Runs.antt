@@ -45,11 +45,11 @@ abbrev pub keys_of : List Pair → List (List ℕ)
 keys_of m = map (λ p. p.key) m
 
 -- the answer of a call on one record that is there
-abbrev pub short : Action → Action
-short a = if is_long a then Keep else a
+abbrev pub unless_long : Action → Action
+unless_long a = if is_long a then Keep else a
 
-abbrev pub short_status : Action → Status
-short_status a = if is_long a then TooLong (stored a) else Success
+abbrev pub status_unless_long : Action → Status
+status_unless_long a = if is_long a then TooLong (stored a) else Success
 
 -- the net changes of one action at a key
 abbrev pub action_changes : List ℕ → Option (List ℕ) → Action → List Change
@@ -96,11 +96,11 @@ module _ {S : Type 0} (acts : S → List ℕ → Option (List ℕ) → Action) (
   -- a call at the record that a bound names, where there is one
   abbrev pub found_entry : (writable : Bool) → S → Way → Bound → Option Pair → Entry
   found_entry w s way bound None = entries.Next way bound None Keep
-  found_entry w s way bound (Some p) = entries.Next way bound (Some p) (short (counted w (acts s p.key (Some p.value))))
+  found_entry w s way bound (Some p) = entries.Next way bound (Some p) (unless_long (counted w (acts s p.key (Some p.value))))
 
   abbrev pub found_status : (writable : Bool) → S → Option Pair → Status
   found_status w s None = NotFound
-  found_status w s (Some p) = short_status (counted w (acts s p.key (Some p.value)))
+  found_status w s (Some p) = status_unless_long (counted w (acts s p.key (Some p.value)))
 
   abbrev pub found_state : S → Option Pair → S
   found_state s None = s

@@ -20,10 +20,10 @@ static_front n f is = elim (cases_lt (length f) 32) [
 
 -- the header that the first bytes of a file spell is the file's
 pub header_read : (image : Option (List ℕ)) (n : ℕ) (into front : List ℕ) (found : Option StaticHead) → length into ≡ 32 → front ≡ take n into → found ≡ static_at front → IfSome image (λ f. ReadsFrom f 0 into n) → IfSome image (λ f. found ≡ static_at f)
-header_read None n into front found size is said reads = tt
-header_read (Some f) n into front found size is said reads =
-    said ∙ ap static_at (is ∙ reads.bytes) ∙ static_front n f (omega (arith, reads.count, size))
+header_read None n into front found size is body_said reads = tt
+header_read (Some f) n into front found size is body_said reads =
+    body_said ∙ ap static_at (is ∙ reads.bytes) ∙ static_front n f (omega (arith, reads.count, size))
 
 pub header_valid : (found : Option StaticHead) (front : List ℕ) → found ≡ static_at front → IfSome found (λ h. is_static h ≡ true)
-header_valid None front said = tt
-header_valid (Some h) front said = (statics.found front h (sym said)).0.0
+header_valid None front body_said = tt
+header_valid (Some h) front body_said = (statics.found front h (sym body_said)).0.0

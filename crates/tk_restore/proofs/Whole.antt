@@ -23,7 +23,7 @@ use Rattle.tk_block.proofs.BodyGrammar.{bodies}
 use Rattle.tk_block.proofs.Lengths.{length-file_text}
 use Rattle.tk_append.specs.Fresh.{AllPairsSmall, together, fresh_next}
 use Rattle.tk_append.specs.FileText.{IsFile}
-use Rattle.tk_append.specs.Log.{AreGroups, AllIn, AllHome}
+use Rattle.tk_append.specs.Log.{AreGroups, AllIn, AllInItsShard}
 use Rattle.tk_append.specs.Opening.{Walk, begin, walked, change_in, first_fault}
 use Rattle.tk_append.specs.OpeningLaws.{MayOpen}
 use Rattle.tk_append.specs.Restored.{may_be_read, read_block, read_on, read_blocks, complete_groups, groups_in}
@@ -112,7 +112,7 @@ puts_home : (ps : List Pair) → AllIn alone (map Put ps)
 puts_home [] = tt
 puts_home (p ∷ ps) = (home_key p.key, puts_home ps)
 
-together_home : (ps : List Pair) → AllHome alone (together 0 ps)
+together_home : (ps : List Pair) → AllInItsShard alone (together 0 ps)
 together_home [] = tt
 together_home (p ∷ ps) = (puts_home (p ∷ ps), tt)
 
@@ -136,7 +136,7 @@ may_open image file count writable appending long r =
       generation = omega arith;
       kind = kind_asked r.head (kind_of r.head image r.was appending);
       legal = together_legal (fresh_next 0 all) all (omega arith) (records_small r.head image r.was);
-      home = λ set. together_home all;
+      in_its_shard = λ set. together_home all;
       size = omega (arith, long, ap length r.is, file_length r.head image);
       number = omega (arith, next_small all);
       last = λ t. omega (arith, next_small all);

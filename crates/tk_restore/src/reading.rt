@@ -32,7 +32,7 @@ fn make_all(records: &mut Records, changes: ChangeList) -> Result<(), NoMemory>
 
 impl Reading {
     ghost use Rattle.std.specs.Prelude.{◌≡◌, IfOk, OnOk};
-    ghost use Rattle.tk_block.specs.Blocks.{IsSmall, said};
+    ghost use Rattle.tk_block.specs.Blocks.{IsSmall, body_said};
     ghost use Rattle.tk_append.specs.Opening.{Walk, begin, walked};
     ghost use Rattle.tk_append.specs.Restored.{may_be_read};
     ghost use Rattle.tk_restore.specs.Readings.{Knows, IsHeld, ReadOrNot};
@@ -53,7 +53,7 @@ impl Reading {
     /// The block may be read behind those so far.
     fn may_read(&self, extent: u64, block: Block<'_>) -> bool
         requires { IsSmall block.key.now block.value.now }
-        ensures { (w : Walk) → Knows self.now w → result ≡ may_be_read w extent (said block.entry) }
+        ensures { (w : Walk) → Knows self.now w → result ≡ may_be_read w extent (body_said block.entry) }
     {
         let room = 44 + block.key.len() + block.value.len();
         room as u64 <= extent && block.kind != 3 && is_in_turn(self.before, self.open_group, block)
@@ -65,7 +65,7 @@ impl Reading {
         requires held { IsHeld self.old }
         ensures knows { (w : Walk) → Knows self.old w
             → OnOk result (Knows self.new
-            (walked w (record { place = place; body = said block.entry }))) }
+            (walked w (record { place = place; body = body_said block.entry }))) }
         ensures held { OnOk result (IsHeld self.new) }
     {
         let change = change_of(alloc, block)?;

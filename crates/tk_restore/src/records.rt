@@ -101,7 +101,7 @@ fn set_in(pairs: &mut PairList, setting: HashedSetting) -> Result<(), NoMemory>
 }
 
 /// The records that settings leave.
-fn settled(mut settings: Vec<HashedSetting>) -> Result<PairList, NoMemory>
+fn live_records(mut settings: Vec<HashedSetting>) -> Result<PairList, NoMemory>
     ensures { IfOk result (λ pairs. pairs ≡ set_all settings.items []) }
 {
     sort(&mut settings)?;
@@ -175,7 +175,7 @@ impl Records {
         let alloc = *self.settings.allocator();
         let settings = mem::replace(&mut self.settings, Vec::new(alloc));
         self.held = 0;
-        refill(self, settled(settings)?)?;
+        refill(self, live_records(settings)?)?;
         self.most = self.held.saturating_mul(2).max(LEAST);
         Ok(())
     }
@@ -200,7 +200,7 @@ impl Records {
         ensures { IfOk result (λ pairs. pairs ≡ self) }
     {
         let Records { settings, .. } = self;
-        settled(settings)
+        live_records(settings)
     }
 }
 

@@ -9,8 +9,8 @@ use Rattle.tk_model.specs.declared.record.Change.{Change}
 use Rattle.tk_model.specs.declared.record.Change.TheVariants as changes
 use Rattle.tk_model.specs.Records.{find, put, put_by, without, after, replay, AllFit, AllHeld}
 use Rattle.tk_model.specs.Orders.{same_bytes, key_cmp}
-use Rattle.tk_store.specs.Store.{First, made, floor_after}
-use Rattle.tk_store.specs.Memory.{MemStands, MemPrepared, mem_nature}
+use Rattle.tk_store.specs.Store.{First, groups_made_by, floor_after}
+use Rattle.tk_store.specs.Memory.{MemStands, MemReserved, mem_constants}
 use Rattle.tk_store.specs.declared.memory.MemStore.{MemStore}
 
 pick_fits : (b : Bool) (k : List ℕ) (p : Pair) (ps : List Pair) (v : List ℕ) → AllHeld (p ∷ ps) → ((u : List ℕ) → find k ps ≡ Some u → length u ≤ 33554431) → (if b then Some p.value else find k ps) ≡ Some v → length v ≤ 33554431
@@ -55,14 +55,14 @@ pub floor_more : (n : ℕ) (gs : List Group) (g : Group) → floor_after n (gs +
 floor_more n [] g = refl
 floor_more n (h ∷ gs) g = floor_more (h.number + 1) gs g
 
-pub applied : (s t : MemStore) (n : ℕ) (cs : List Change) (first : First) (since : List Group) (hard : ℕ) → s.grows ≡ true → MemPrepared s cs → MemStands s first since hard
-    → t.order ≡ s.order → t.pairs ≡ s.staged → t.last ≡ Some n → MemStands t first (since ++ made (mem_nature s) n cs) hard
+pub applied : (s t : MemStore) (n : ℕ) (cs : List Change) (first : First) (since : List Group) (hard : ℕ) → s.grows ≡ true → MemReserved s cs → MemStands s first since hard
+    → t.order ≡ s.order → t.pairs ≡ s.reserved_group → t.last ≡ Some n → MemStands t first (since ++ groups_made_by (mem_constants s) n cs) hard
 applied s t n [] first since hard grows p st o e l = absurd (let g = p.grows in cc)
 applied s t n (c ∷ cs) first since hard grows p st o e l =
     let g : Group = record { number = n; changes = c ∷ cs } in
     record {
-      map = rw (o, replay_more s.order since g first.records, e, p.staged, st.map) refl;
-      fit = rw (e, p.staged) (after_held s.order (c ∷ cs) s.pairs p.fit st.fit);
+      map = rw (o, replay_more s.order since g first.records, e, p.reserved_group, st.map) refl;
+      fit = rw (e, p.reserved_group) (after_held s.order (c ∷ cs) s.pairs p.fit st.fit);
       rising = rw o st.rising;
       floor = rw (l, floor_more 0 since g) refl;
       synced = omega (arith, st.synced, length-append since (g ∷ []));

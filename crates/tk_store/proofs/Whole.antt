@@ -4,7 +4,7 @@ use Rattle.tk_model.specs.declared.record.Group.{Group}
 use Rattle.tk_model.specs.declared.record.Change.{Change}
 use Rattle.tk_store.specs.declared.error.StoreError.{StoreError}
 use Rattle.tk_store.specs.declared.error.StoreError.TheVariants as errors
-use Rattle.tk_store.specs.Store.{Nature, First, IsWhole, OkOrFault, UnlessFault, extents_need, extent_of, floor_after}
+use Rattle.tk_store.specs.Store.{StoreConstants, First, IsWhole, OkOrFault, UnlessFault, extents_need, extent_of, floor_after}
 use Rattle.tk_model.specs.Entries.{group_of}
 
 pub stays_whole : {S T : Type 0} (stands : S → First → List Group → ℕ → Type 0) (new : S) (result : Result T StoreError) (first : First) (since : List Group) (hard : ℕ) → OkOrFault result
@@ -15,7 +15,7 @@ stays_whole stands new (Err (errors.Full size need limit)) first since hard a st
 stays_whole stands new (Err errors.NoMemory) first since hard a st = absurd a
 
 -- a list with changes needs the sum of their extents
-pub sum_needed : (n : Nature) (v : ℕ) (cs : List Change) → (cs ≡ [] → ⊥) → extents_need n v cs ≡ sum_by (extent_of v) cs
+pub sum_needed : (n : StoreConstants) (v : ℕ) (cs : List Change) → (cs ≡ [] → ⊥) → extents_need n v cs ≡ sum_by (extent_of v) cs
 sum_needed n v [] some = absurd (some refl)
 sum_needed n v (c ∷ cs) some = refl
 

@@ -2,7 +2,7 @@
 use Rattle.std.specs.Prelude.{◌≡◌, ℕ, List, [], ◌∷◌, Option, Result, Ok, Err, ◌⊎◌, if◌then◌else◌}
 use Rattle.tk_store.specs.declared.error.StoreError.{StoreError}
 use Rattle.tk_store.specs.declared.error.StoreError.TheVariants as errors
-use Rattle.tk_store.specs.Store.{Nature, Shown, NeverFull, TellsFull}
+use Rattle.tk_store.specs.Store.{StoreConstants, StoreView, NeverFull, TellsFull}
 use Rattle.tk_model.specs.Records.{find}
 use Rattle.tk_model.specs.declared.record.Action.{Action}
 use Rattle.tk_model.specs.declared.record.Change.{Change}
@@ -25,7 +25,7 @@ TurnsTo (Err (errors.Full size need limit)) old turned new = new ≡ turned
 TurnsTo (Err errors.NoMemory) old turned new = (new ≡ old) ⊎ (new ≡ turned)
 
 -- full as a group of these changes is, and never where nothing changes
-abbrev pub TellsFullOfChanges : {T : Type 0} → Nature → Shown → List Change → Result T StoreError → Type 0
+abbrev pub TellsFullOfChanges : {T : Type 0} → StoreConstants → StoreView → List Change → Result T StoreError → Type 0
 TellsFullOfChanges n s [] result = NeverFull result
 TellsFullOfChanges n s (c ∷ cs) result = TellsFull n s (c ∷ cs) result
 

@@ -11,7 +11,7 @@ use Rattle.tk_model.specs.declared.record.Change.{Change}
 use Rattle.tk_model.specs.declared.record.Change.TheVariants as changes
 
 -- what never changes from the opening on
-pub record Nature : Type 0 where
+pub record StoreConstants : Type 0 where
   pub order : Order
   -- the limit that counts
   pub limit : ℕ
@@ -31,7 +31,7 @@ pub record Nature : Type 0 where
   pub log : Option (List Change → ℕ)
 
 -- what calls change
-pub record Shown : Type 0 where
+pub record StoreView : Type 0 where
   -- the records in order, where the store tells them
   pub map : Option (List Pair)
   pub size : ℕ
@@ -78,9 +78,9 @@ pub record First : Type 0 where
   pub held : Held
 
 -- the groups that a list of changes makes: one, or a mark, or none
-abbrev pub made : Nature → (number : ℕ) → List Change → List Group
-made n number [] = if n.marks && n.writable then record { number = number; changes = [] } ∷ [] else []
-made n number (c ∷ cs) = record { number = number; changes = c ∷ cs } ∷ []
+abbrev pub groups_made_by : StoreConstants → (number : ℕ) → List Change → List Group
+groups_made_by n number [] = if n.marks && n.writable then record { number = number; changes = [] } ∷ [] else []
+groups_made_by n number (c ∷ cs) = record { number = number; changes = c ∷ cs } ∷ []
 
 -- the least number that the next group may have
 abbrev pub floor_after : ℕ → List Group → ℕ
@@ -88,7 +88,7 @@ floor_after n [] = n
 floor_after n (g ∷ gs) = floor_after (g.number + 1) gs
 
 -- a file opened for writing is ended with the next number; one that is only read stays as it is
-abbrev pub ended_by : Nature → (next : ℕ) → Option ℕ
+abbrev pub ended_by : StoreConstants → (next : ℕ) → Option ℕ
 ended_by n next = if n.writable then Some next else None
 
 -- no key is too long for a file, and no value longer than this
@@ -116,7 +116,7 @@ abbrev pub extent_of : (version : ℕ) → Change → ℕ
 extent_of version c = extent_for (overhead version + length_of c)
 
 -- what a list of changes needs where extents count: their sum; without changes the extent of a mark, or nothing
-abbrev pub extents_need : Nature → (version : ℕ) → List Change → ℕ
+abbrev pub extents_need : StoreConstants → (version : ℕ) → List Change → ℕ
 extents_need n version [] = if n.marks && n.writable then extent_for (overhead version) else 0
 extents_need n version (c ∷ cs) = sum_by (extent_of version) (c ∷ cs)
 
@@ -163,7 +163,7 @@ OnNoMemory (Err (errors.Full size need limit)) P = Unit {0}
 OnNoMemory (Err errors.NoMemory) P = P
 
 -- the store's own size and what the list needs pass its limit
-pub record PassesLimit (n : Nature) (s : Shown) (cs : List Change) (size need limit : ℕ) : Type 0 where
+pub record PassesLimit (n : StoreConstants) (s : StoreView) (cs : List Change) (size need limit : ℕ) : Type 0 where
   pub size_is : size ≡ s.size
   pub need_is : IfSome (s.needs cs) (λ m. need ≡ m)
   pub limit_is : limit ≡ n.limit
@@ -175,12 +175,12 @@ PassesLog None log_size cs size need limit = ⊥
 PassesLog (Some bytes) log_size cs size need limit = (size ≡ log_size) × (need ≡ bytes cs) × (limit ≡ 2 ^ 40) × (is_over size need limit cs ≡ true)
 
 -- there is room for the group, in the store and in its log
-pub record HasRoom (n : Nature) (s : Shown) (cs : List Change) : Type 0 where
+pub record HasRoom (n : StoreConstants) (s : StoreView) (cs : List Change) : Type 0 where
   pub store : IfSome (s.needs cs) (λ need. is_over s.size need n.limit cs ≡ false)
   pub log : IfSome n.log (λ bytes. is_over s.log_size (bytes cs) (2 ^ 40) cs ≡ false)
 
 -- full exactly where there is no room, with the numbers of the store or of its log
-abbrev pub TellsFull : {T : Type 0} → Nature → Shown → List Change → Result T StoreError → Type 0
+abbrev pub TellsFull : {T : Type 0} → StoreConstants → StoreView → List Change → Result T StoreError → Type 0
 TellsFull n s cs (Ok v) = HasRoom n s cs
 TellsFull n s cs (Err errors.Fault) = Unit {0}
 TellsFull n s cs (Err (errors.Full size need limit)) = PassesLimit n s cs size need limit ⊎ PassesLog n.log s.log_size cs size need limit
@@ -200,7 +200,7 @@ GivesInto None old new answer = (answer ≡ None) × (new ≡ old)
 GivesInto (Some v) old new answer = (answer ≡ Some (length v)) × (new ≡ copied v old)
 
 -- records, numbers and closing stay; size, costs, needs and held pages may change
-pub record SameContents (old new : Shown) : Type 0 where
+pub record SameContents (old new : StoreView) : Type 0 where
   pub map : new.map ≡ old.map
   pub floor : new.floor ≡ old.floor
   pub closed : new.closed ≡ old.closed
@@ -216,26 +216,26 @@ module _ {S : Type 0} where
 
   -- it stands for all that it stood for, and so since each time
   abbrev pub KeepsSince : (S → ℕ → ℕ → First → List Group → ℕ → Type 0) → S → S → Type 0
-  KeepsSince stood old new = (t n : ℕ) (first : First) (since : List Group) (hard : ℕ) → stood old t n first since hard → stood new t n first since hard
+  KeepsSince kept_since old new = (t n : ℕ) (first : First) (since : List Group) (hard : ℕ) → kept_since old t n first since hard → kept_since new t n first since hard
 
   -- whatever the call answered, an untorn image restores to a front of the groups and of these more
   abbrev pub LeavesSafe : (S → ℕ → ℕ → First → List Group → ℕ → Type 0) → (S → ℕ → First → List Group → ℕ → Type 0) → List Group → S → S → Type 0
-  LeavesSafe stood safe more old new = (t n : ℕ) (first : First) (since : List Group) (hard : ℕ) → stood old t n first since hard → safe new t first (since ++ more) n
+  LeavesSafe kept_since safe more old new = (t n : ℕ) (first : First) (since : List Group) (hard : ℕ) → kept_since old t n first since hard → safe new t first (since ++ more) n
 
   -- from before a look-up to after it: nothing was written, and what the store shows and stands for is as it was
-  pub record OnlyLooks (nature : S → Nature) (shown : S → Shown) (stands : S → First → List Group → ℕ → Type 0) (stood : S → ℕ → ℕ → First → List Group → ℕ → Type 0)
+  pub record OnlyLooks (constants : S → StoreConstants) (store_view : S → StoreView) (stands : S → First → List Group → ℕ → Type 0) (kept_since : S → ℕ → ℕ → First → List Group → ℕ → Type 0)
       (untouched : S → S → Type 0) (moment taken : S → ℕ) (old new : S) : Type 0 where
-    pub same_nature : nature new ≡ nature old
-    pub same_shown : shown new ≡ shown old
+    pub same_nature : constants new ≡ constants old
+    pub same_shown : store_view new ≡ store_view old
     pub keeps : Keeps stands old new
-    pub keeps_since : KeepsSince stood old new
+    pub keeps_since : KeepsSince kept_since old new
     pub writes_nothing : untouched old new
     pub later : moment old ≤ moment new
     pub more_taken : taken old ≤ taken new
 
   -- from before a call to after it, whatever it answered
-  pub record GoesOn (nature : S → Nature) (shown : S → Shown) (moment taken : S → ℕ) (old new : S) : Type 0 where
-    pub same_nature : nature new ≡ nature old
-    pub tells : is_some (shown new).map ≡ is_some (shown old).map
+  pub record GoesOn (constants : S → StoreConstants) (store_view : S → StoreView) (moment taken : S → ℕ) (old new : S) : Type 0 where
+    pub same_nature : constants new ≡ constants old
+    pub tells : is_some (store_view new).map ≡ is_some (store_view old).map
     pub later : moment old ≤ moment new
     pub more_taken : taken old ≤ taken new

@@ -20,22 +20,22 @@ pub struct MemStore {
     closed: bool,
     end: u64,
     pairs: PairList,
-    staged: PairList,
+    reserved_group: PairList,
     grows: bool,
 }
 
 impl MemStore {
-    ghost use Rattle.tk_store.specs.Memory.{MemStands, mem_shown, mem_nature};
+    ghost use Rattle.tk_store.specs.Memory.{MemStands, mem_view, mem_constants};
     ghost use Rattle.tk_store.specs.Store.{Records};
 
     /// An empty store.
     pub fn new(alloc: Global, order: Order, room: u64) -> MemStore
         ensures stands { MemStands result (record { records = []; held = Records }) [] 0 }
-        ensures open { (mem_shown result).closed ≡ false }
-        ensures floor { (mem_shown result).floor ≡ 0 }
-        ensures writable { (mem_nature result).writable ≡ true }
-        ensures order { (mem_nature result).order ≡ order }
-        ensures limit { (mem_nature result).limit ≡ min room (2 ^ 40) }
+        ensures open { (mem_view result).closed ≡ false }
+        ensures floor { (mem_view result).floor ≡ 0 }
+        ensures writable { (mem_constants result).writable ≡ true }
+        ensures order { (mem_constants result).order ≡ order }
+        ensures limit { (mem_constants result).limit ≡ min room (2 ^ 40) }
     {
         MemStore {
             order,
@@ -45,7 +45,7 @@ impl MemStore {
             closed: false,
             end: 0,
             pairs: PairList::new(alloc),
-            staged: PairList::new(alloc),
+            reserved_group: PairList::new(alloc),
             grows: false,
         }
     }
@@ -62,22 +62,22 @@ fn copied_pair(found: Option<&Pair>) -> Result<Option<Pair>, NoMemory>
 
 impl SeqStore for MemStore {
     ghost use Rattle.std.specs.Prelude.{◌≡◌, true, Bool};
-    ghost use Rattle.tk_store.specs.Memory.{MemStands, MemPrepared, mem_shown, mem_nature};
+    ghost use Rattle.tk_store.specs.Memory.{MemStands, MemReserved, mem_view, mem_constants};
     ghost use Rattle.tk_store.specs.MemoryLaws.{mem_replays, mem_rising, mem_held, mem_numbered, mem_synced, mem_by_extents, mem_unended, mem_values};
 
-    ghost nature = { mem_nature };
+    ghost constants = { mem_constants };
 
-    ghost shown = { mem_shown };
+    ghost store_view = { mem_view };
 
     ghost stands = { MemStands };
 
-    ghost prepared = { MemPrepared };
+    ghost reserved = { MemReserved };
 
     ghost moment = { λ s. 0 };
 
     ghost safe = { λ s t first groups n. Unit {0} };
 
-    ghost stood = { λ s t n. MemStands s };
+    ghost kept_since = { λ s t n. MemStands s };
 
     ghost untouched = { λ old new. new.pairs ≡ old.pairs };
 
@@ -181,20 +181,20 @@ impl SeqStore for MemStore {
     }
 
     fn check_group(&mut self, changes: &ChangeList) -> Result<u64, StoreError> {
-        let staged = with_all(&self.order, &self.pairs, changes.as_slice())?;
+        let reserved_group = with_all(&self.order, &self.pairs, changes.as_slice())?;
         let size = self.pairs.len() as u64;
-        Ok((staged.len() as u64).saturating_sub(size))
+        Ok((reserved_group.len() as u64).saturating_sub(size))
     }
 
     fn reserve_group(&mut self, changes: &ChangeList) -> Result<(), StoreError> {
-        let staged = with_all(&self.order, &self.pairs, changes.as_slice())?;
+        let reserved_group = with_all(&self.order, &self.pairs, changes.as_slice())?;
         let size = self.pairs.len() as u64;
-        let need = (staged.len() as u64).saturating_sub(size);
+        let need = (reserved_group.len() as u64).saturating_sub(size);
         let limit = self.room.min(1 << 40);
         if is_over(size, need, limit, changes) {
             return Err(StoreError::Full { size, need, limit });
         }
-        self.staged = staged;
+        self.reserved_group = reserved_group;
         self.grows = !changes.is_empty();
         Ok(())
     }
@@ -202,7 +202,7 @@ impl SeqStore for MemStore {
     #[tactic(auto, using(crate::proofs::Mem::applied))]
     fn apply_reserved(&mut self, number: u64) -> Result<(), StoreError> {
         if self.grows {
-            mem::swap(&mut self.pairs, &mut self.staged);
+            mem::swap(&mut self.pairs, &mut self.reserved_group);
             self.last = Some(number);
         }
         Ok(())

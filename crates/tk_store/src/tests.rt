@@ -22,11 +22,11 @@ fn set_on<S: SeqStore>(
     value: Bytes,
 ) -> Result<Status, StoreError>
     requires whole { IsWhole S.stands store.old }
-    requires open { (S.shown store.old).closed ≡ false }
+    requires open { (S.store_view store.old).closed ≡ false }
     requires key { length key.now ≤ 65535 }
-    requires writable { (S.nature store.old).writable ≡ true }
-    requires number { (S.shown store.old).floor ≤ number }
-    ensures { IfSome (S.shown store.old).map (λ m. IfOk result (λ s. s ≡ reply_status (set_reply value true (find key.now m)))) }
+    requires writable { (S.constants store.old).writable ≡ true }
+    requires number { (S.store_view store.old).floor ≤ number }
+    ensures { IfSome (S.store_view store.old).map (λ m. IfOk result (λ s. s ≡ reply_status (set_reply value true (find key.now m)))) }
 {
     let mut setter = Setter::new(value);
     match run_on(alloc, store, number, key, &mut setter)? {
@@ -44,11 +44,11 @@ fn add_on<S: SeqStore>(
     value: Bytes,
 ) -> Result<Status, StoreError>
     requires whole { IsWhole S.stands store.old }
-    requires open { (S.shown store.old).closed ≡ false }
+    requires open { (S.store_view store.old).closed ≡ false }
     requires key { length key.now ≤ 65535 }
-    requires writable { (S.nature store.old).writable ≡ true }
-    requires number { (S.shown store.old).floor ≤ number }
-    ensures { IfSome (S.shown store.old).map (λ m. IfOk result (λ s. s ≡ reply_status (set_reply value false (find key.now m)))) }
+    requires writable { (S.constants store.old).writable ≡ true }
+    requires number { (S.store_view store.old).floor ≤ number }
+    ensures { IfSome (S.store_view store.old).map (λ m. IfOk result (λ s. s ≡ reply_status (set_reply value false (find key.now m)))) }
 {
     let mut adder = Adder::new(value);
     match run_on(alloc, store, number, key, &mut adder)? {
@@ -65,11 +65,11 @@ fn remove_on<S: SeqStore>(
     key: &[u8],
 ) -> Result<Status, StoreError>
     requires whole { IsWhole S.stands store.old }
-    requires open { (S.shown store.old).closed ≡ false }
+    requires open { (S.store_view store.old).closed ≡ false }
     requires key { length key.now ≤ 65535 }
-    requires writable { (S.nature store.old).writable ≡ true }
-    requires number { (S.shown store.old).floor ≤ number }
-    ensures { IfSome (S.shown store.old).map (λ m. IfOk result (λ s. s ≡ reply_status (remove_reply (find key.now m)))) }
+    requires writable { (S.constants store.old).writable ≡ true }
+    requires number { (S.store_view store.old).floor ≤ number }
+    ensures { IfSome (S.store_view store.old).map (λ m. IfOk result (λ s. s ≡ reply_status (remove_reply (find key.now m)))) }
 {
     let mut remover = Remover::new();
     match run_on(alloc, store, number, key, &mut remover)? {
@@ -86,10 +86,10 @@ fn get_on<S: SeqStore>(
     key: &[u8],
 ) -> Result<(Status, Getter), StoreError>
     requires whole { IsWhole S.stands store.old }
-    requires open { (S.shown store.old).closed ≡ false }
+    requires open { (S.store_view store.old).closed ≡ false }
     requires key { length key.now ≤ 65535 }
-    ensures status { IfSome (S.shown store.old).map (λ m. IfOk result (λ r. r.0 ≡ reply_status (get_reply (find key.now m)))) }
-    ensures value { IfSome (S.shown store.old).map (λ m. IfOk result (λ r. r.1 ≡ find key.now m)) }
+    ensures status { IfSome (S.store_view store.old).map (λ m. IfOk result (λ r. r.0 ≡ reply_status (get_reply (find key.now m)))) }
+    ensures value { IfSome (S.store_view store.old).map (λ m. IfOk result (λ r. r.1 ≡ find key.now m)) }
 {
     let mut getter = Getter::new(alloc);
     let status = match run_on(alloc, store, 0, key, &mut getter)? {
@@ -136,11 +136,11 @@ fn reads<S: SeqStore>(alloc: Global, store: &mut S, key: &[u8]) -> Result<bool, 
 /// Makes a group, and answers what it needed.
 fn writes<S: SeqStore>(store: &mut S, changes: &ChangeList) -> Result<u64, StoreError>
     requires whole { IsWhole S.stands store.old }
-    requires open { (S.shown store.old).closed ≡ false }
+    requires open { (S.store_view store.old).closed ≡ false }
     requires alone { IsClearAlone changes.now }
-    requires fit { AllFitWithin (S.nature store.old).longest_value changes.now }
-    requires writable { (S.nature store.old).writable ≡ true }
-    requires number { (S.shown store.old).floor ≤ 5 }
+    requires fit { AllFitWithin (S.constants store.old).longest_value changes.now }
+    requires writable { (S.constants store.old).writable ≡ true }
+    requires number { (S.store_view store.old).floor ≤ 5 }
 {
     let need = store.check_group(changes)?;
     store.reserve_group(changes)?;
@@ -156,10 +156,10 @@ fn reads_back<S: SeqStore>(
     value: Bytes,
 ) -> Result<bool, StoreError>
     requires whole { IsWhole S.stands store.old }
-    requires open { (S.shown store.old).closed ≡ false }
+    requires open { (S.store_view store.old).closed ≡ false }
     requires key { length key.now ≤ 65535 }
-    requires writable { (S.nature store.old).writable ≡ true }
-    requires number { (S.shown store.old).floor ≤ 1 }
+    requires writable { (S.constants store.old).writable ≡ true }
+    requires number { (S.store_view store.old).floor ≤ 1 }
 {
     let mut setter = Setter::new(value);
     run_on(alloc, store, 1, key, &mut setter)?;

@@ -13,12 +13,12 @@ use Rattle.tk_model.specs.declared.record.Change.{Change}
 use Rattle.tk_model.specs.declared.record.Order.TheVariants.{Hash}
 use Rattle.tk_model.specs.Records.{find, replay}
 use Rattle.tk_model.specs.Entries.{group_of, touched}
-use Rattle.tk_proc.specs.Runs.{short, short_status}
+use Rattle.tk_proc.specs.Runs.{short, status_unless_long}
 use Rattle.tk_block.specs.declared.head.StaticHead.{StaticHead}
 use Rattle.tk_block.specs.Text.{static_text, static_front, closing_text, base_of}
 use Rattle.tk_block.specs.Layout.{laid, links_of, end_of, texts, bodies_of, heads_text, file_text}
 use Rattle.tk_block.proofs.Lengths.{length-file_text}
-use Rattle.tk_store.specs.Store.{First, Nature, OkOrFault, UnlessFault, is_over, extent_of}
+use Rattle.tk_store.specs.Store.{First, StoreConstants, OkOrFault, UnlessFault, is_over, extent_of}
 use Rattle.tk_store.specs.OneRecord.{call_changes, TellsFullOfChanges}
 use Rattle.tk_store.specs.declared.error.StoreError.{StoreError}
 use Rattle.tk_store.specs.declared.error.StoreError.TheVariants as errors
@@ -30,7 +30,7 @@ use Rattle.tk_util.specs.declared.call.Stop.{Stop}
 use Rattle.tk_util.specs.declared.call.Stop.TheVariants.{Full, NoMemory, Refused}
 use Rattle.tk_append.specs.Restored.{groups_in}
 use Rattle.tk_hash.specs.HashLaws.{hash_replays}
-use Rattle.tk_hash.specs.Hash.{HashStands, opening, groups_held, map_in, hash_disk, hash_head, hash_nature, hash_shown}
+use Rattle.tk_hash.specs.Hash.{HashStands, opening, groups_held, map_in, hash_disk, hash_head, hash_constants, hash_view}
 use Rattle.tk_util.specs.Calls.{alone, Made, MadeOn, NoRoom, NoRoomOn}
 
 -- the file of a header by its text and its p
@@ -101,16 +101,16 @@ still_told F G (Some f) (Some g) A B same go x = go x
 still_told F G (Some f) None A B same go x = absurd (cc same)
 
 -- there was room for what was made
-room_is : {D T : Type 0} (image : D → Option (List ℕ)) (s : HashStore D) (cs : List Change) (v : T) (size : ℕ) → size ≡ log_end s.log → (hash_nature s).limit ≡ 2 ^ 40
-    → TellsFullOfChanges {T = T} (hash_nature s) (hash_shown image s) cs (Ok v) → is_over size (sum_by (extent_of 1) cs) (2 ^ 40) cs ≡ false
+room_is : {D T : Type 0} (image : D → Option (List ℕ)) (s : HashStore D) (cs : List Change) (v : T) (size : ℕ) → size ≡ log_end s.log → (hash_constants s).limit ≡ 2 ^ 40
+    → TellsFullOfChanges {T = T} (hash_constants s) (hash_view image s) cs (Ok v) → is_over size (sum_by (extent_of 1) cs) (2 ^ 40) cs ≡ false
 room_is image s [] v size e limit told = and-false (nat_lt (2 ^ 40) (size + 0))
 room_is image s (c ∷ cs) v size e limit told =
     ap (λ (n : ℕ). is_over n (sum_by (extent_of 1) (c ∷ cs)) (2 ^ 40) (c ∷ cs)) e
     ∙ (ap (λ (l : ℕ). is_over (log_end s.log) (sum_by (extent_of 1) (c ∷ cs)) l (c ∷ cs)) (sym limit) ∙ told.store)
 
 -- there was none where the store was full
-over_is : {D : Type 0} (T : Type 0) (image : D → Option (List ℕ)) (s : HashStore D) (cs : List Change) (a n l size : ℕ) → size ≡ log_end s.log → (hash_nature s).limit ≡ 2 ^ 40
-    → TellsFullOfChanges {T = T} (hash_nature s) (hash_shown image s) cs (Err (errors.Full a n l)) → is_over size (sum_by (extent_of 1) cs) (2 ^ 40) cs ≡ true
+over_is : {D : Type 0} (T : Type 0) (image : D → Option (List ℕ)) (s : HashStore D) (cs : List Change) (a n l size : ℕ) → size ≡ log_end s.log → (hash_constants s).limit ≡ 2 ^ 40
+    → TellsFullOfChanges {T = T} (hash_constants s) (hash_view image s) cs (Err (errors.Full a n l)) → is_over size (sum_by (extent_of 1) cs) (2 ^ 40) cs ≡ true
 over_is T image s [] a n l size e limit told = absurd told
 over_is T image s (c ∷ cs) a n l size e limit (inl x) =
     ap (λ (k : ℕ). is_over k (sum_by (extent_of 1) (c ∷ cs)) (2 ^ 40) (c ∷ cs)) (e ∙ sym x.size_is)
@@ -124,27 +124,27 @@ size_is image may_leave past s groups st =
     ∙ (ap (λ (l : List Group). end_of (base_of (hash_head s).p) (bodies_of l)) (ap groups_held st.held ∙ sym (append-nil st.groups)) ∙ sym st.end_is)
 
 -- a call was not made, and the store then closed
-pub kept_on : {D : Type 0} (image : D → Option (List ℕ)) (s t u : HashStore D) (groups : List Group) (number : ℕ) (R : Type 0) → hash_nature t ≡ hash_nature s → number ≡ s.next
+pub kept_on : {D : Type 0} (image : D → Option (List ℕ)) (s t u : HashStore D) (groups : List Group) (number : ℕ) (R : Type 0) → hash_constants t ≡ hash_constants s → number ≡ s.next
     → map_in image t ≡ map_in image s
     → IfSome (image (hash_disk t)) (λ f. image (hash_disk u) ≡ Some (if t.writable then closed_text (hash_head t) (groups ++ []) number else closed_text (hash_head t) groups t.next))
     → (image (hash_disk u) ≡ Some (closed_text (hash_head s) groups s.next) → R)
     → IfSome (image (hash_disk s)) (λ f. R)
 kept_on image s t u groups number R same numbered told file go =
     still_told _ _ _ _ _ _ told (λ after. go (after ∙ ap Some (file_kept t.writable (hash_head t) (hash_head s) groups t.next s.next number
-    (ap (λ (n : Nature). n.header) same) (ap (λ (n : Nature). n.next) same) numbered))) file
+    (ap (λ (n : StoreConstants). n.header) same) (ap (λ (n : StoreConstants). n.next) same) numbered))) file
 
 -- what a call that was made says of the records before it
 abbrev pub Told : {D P : Type 0} (image : D → Option (List ℕ)) (may_leave : D → List ℕ → Type 0) (past : D → Past) (acts : P → List ℕ → Option (List ℕ) → Action) (turns : P → List ℕ → Option (List ℕ) → P) (s t : HashStore D) (key : List ℕ) (p q : P) (number : ℕ) (status : Status) → List Pair → Type 0
 Told image may_leave past acts turns s t key p q number status m =
-    (status ≡ short_status (acts p key (find key m))) × (q ≡ turns p key (find key m))
-    × TellsFullOfChanges {T = Status} (hash_nature s) (hash_shown image s) (call_changes acts p key m) (Ok status)
+    (status ≡ status_unless_long (acts p key (find key m))) × (q ≡ turns p key (find key m))
+    × TellsFullOfChanges {T = Status} (hash_constants s) (hash_view image s) (call_changes acts p key m) (Ok status)
     × (map_in image t ≡ Some (touched Hash key (short (acts p key (find key m))) m))
     × ((first : First) (since : List Group) (hard : ℕ) → HashStands image may_leave past s first since hard → HashStands image may_leave past t first (since ++ group_of number (call_changes acts p key m)) hard)
 
 -- a call was made, and the store then closed
 pub made_on : {D P : Type 0} (image : D → Option (List ℕ)) (may_leave : D → List ℕ → Type 0) (past : D → Past) (acts : P → List ℕ → Option (List ℕ) → Action) (turns : P → List ℕ → Option (List ℕ) → P) (s t u : HashStore D) (key : List ℕ) (p q : P) (groups : List Group) (number closes : ℕ) (status : Status)
     → HashStands image may_leave past s (opening groups) [] 0 → IfSome (map_in image s) (Told image may_leave past acts turns s t key p q number status)
-    → hash_nature t ≡ hash_nature s → number ≡ s.next → (hash_nature s).limit ≡ 2 ^ 40 → (s.writable ≡ true → closes ≡ s.next + 1)
+    → hash_constants t ≡ hash_constants s → number ≡ s.next → (hash_constants s).limit ≡ 2 ^ 40 → (s.writable ≡ true → closes ≡ s.next + 1)
     → ((since : List Group) → HashStands image may_leave past t (opening groups) since 0 → IfSome (image (hash_disk t)) (λ f. image (hash_disk u) ≡ Some (if t.writable then closed_text (hash_head t) (groups ++ since) closes else closed_text (hash_head t) groups t.next)))
     → IfSome (image (hash_disk s)) (λ f. MadeOn acts turns (hash_head s) groups s.next s.writable key p q (image (hash_disk u)) status)
 made_on image may_leave past acts turns s t u key p q groups number closes status st said same numbered limit closed file =
@@ -157,23 +157,23 @@ made_on image may_leave past acts turns s t u key p q groups number closes statu
       room = room_is image s (call_changes acts p key m) status (length (closed_text (hash_head s) groups s.next)) (size_is image may_leave past s groups st) limit x.2;
       after_is = after ∙ ap Some (file_after t.writable s.writable (hash_head t) (hash_head s) groups
           (group_of number (call_changes acts p key m)) (group_of s.next (call_changes acts p key m)) t.next s.next closes
-          (ap (λ (n : Nature). n.writable) same) (ap (λ (n : Nature). n.header) same) (ap (λ (n : Nature). n.next) same) closed
+          (ap (λ (n : StoreConstants). n.writable) same) (ap (λ (n : StoreConstants). n.header) same) (ap (λ (n : StoreConstants). n.next) same) closed
           (ap (λ (n : ℕ). group_of n (call_changes acts p key m)) numbered));
     })
 
 -- there was no room for a call
 pub no_room_on : {D P : Type 0} (image : D → Option (List ℕ)) (may_leave : D → List ℕ → Type 0) (past : D → Past) (acts : P → List ℕ → Option (List ℕ) → Action) (s u : HashStore D) (key : List ℕ) (p : P) (groups : List Group) (e : StoreError) (a n l : ℕ) → e ≡ errors.Full a n l
-    → HashStands image may_leave past s (opening groups) [] 0 → (hash_nature s).limit ≡ 2 ^ 40
-    → IfSome (map_in image s) (λ m. TellsFullOfChanges {T = Status} (hash_nature s) (hash_shown image s) (call_changes acts p key m) (Err e))
+    → HashStands image may_leave past s (opening groups) [] 0 → (hash_constants s).limit ≡ 2 ^ 40
+    → IfSome (map_in image s) (λ m. TellsFullOfChanges {T = Status} (hash_constants s) (hash_view image s) (call_changes acts p key m) (Err e))
     → IfSome (image (hash_disk s)) (λ f. image (hash_disk u) ≡ Some (closed_text (hash_head s) groups s.next))
     → IfSome (image (hash_disk s)) (λ f. NoRoomOn acts (hash_head s) groups s.next key p (image (hash_disk u)))
 no_room_on image may_leave past acts s u key p groups e a n l is st limit full after =
     let m : List Pair = replay Hash groups [] in
     both_told (image (hash_disk s)) _ _ _ after
-    (told_map (image (hash_disk s)) (map_in image s) m (λ x. TellsFullOfChanges {T = Status} (hash_nature s) (hash_shown image s) (call_changes acts p key x) (Err e)) _ (map_is image may_leave past s groups st) full (λ x. x))
+    (told_map (image (hash_disk s)) (map_in image s) m (λ x. TellsFullOfChanges {T = Status} (hash_constants s) (hash_view image s) (call_changes acts p key x) (Err e)) _ (map_is image may_leave past s groups st) full (λ x. x))
     (λ kept x. record {
       full = over_is Status image s (call_changes acts p key m) a n l (length (closed_text (hash_head s) groups s.next)) (size_is image may_leave past s groups st) limit
-          (subst (λ (y : StoreError). TellsFullOfChanges {T = Status} (hash_nature s) (hash_shown image s) (call_changes acts p key m) (Err y)) is x);
+          (subst (λ (y : StoreError). TellsFullOfChanges {T = Status} (hash_constants s) (hash_view image s) (call_changes acts p key m) (Err y)) is x);
       after_is = kept;
     })
 

@@ -13,7 +13,7 @@ use Rattle.tk_util.specs.declared.call.Stop.{Stop}
 use Rattle.tk_util.specs.declared.call.Stop.TheVariants as stops
 use Rattle.tk_model.specs.declared.error.OpenError.TheVariants.{NotADatabase}
 use Rattle.tk_append.specs.Opening.{first_fault}
-use Rattle.tk_util.specs.Calls.{RefusedAt, Holds}
+use Rattle.tk_util.specs.Calls.{RefusedAt, HoldsDatabase}
 use Rattle.tk_util.specs.Ran.{Replied, RanCall, IsClear, value_in}
 use Rattle.tk_util.specs.Done.{IsMade, CallDone}
 use Rattle.tk_util.specs.Ends.{call_end}
@@ -161,7 +161,7 @@ is_found (Some v) s finish replied is e = refl
 
 -- a look-up that ended well found the value of the file
 pub found_call : (key : List ℕ) (f : List ℕ) (o1 value : Option (List ℕ)) (answer : Result Status Stop) (given : Result (Unit {0}) DiskError) (finish : Finish)
-    → IfOk answer (λ s. IsMade false get_reply key f o1 value × (s ≡ (get_reply value).status)) → finish ≡ call_end answer given → finish.status ≡ 0 → (h : Holds false f) × (value ≡ value_in h.groups key) × IsSome value
+    → IfOk answer (λ s. IsMade false get_reply key f o1 value × (s ≡ (get_reply value).status)) → finish ≡ call_end answer given → finish.status ≡ 0 → (h : HoldsDatabase false f) × (value ≡ value_in h.groups key) × IsSome value
 found_call key f o1 value (Ok s) (Ok g) finish made is e = (made.0.holds, made.0.was_is, is_found value s finish made.1 is e)
 found_call key f o1 value (Ok s) (Err x) finish made is e = absurd (not_status finish (ended 4) 0 is (λ h. cc h) e)
 found_call key f o1 value (Err (stops.Refused place)) given finish made is e = absurd (not_status finish (refused_at 0 place) 0 is (λ h. cc h) e)

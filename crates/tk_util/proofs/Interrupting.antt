@@ -20,12 +20,12 @@ use Rattle.tk_block.specs.Text.{head_at, base_of}
 use Rattle.tk_block.specs.Blocks.{body_at}
 use Rattle.tk_block.specs.declared.block.Body.{Body}
 use Rattle.tk_block.specs.declared.head.StaticHead.{StaticHead}
-use Rattle.tk_store.specs.Store.{Nature}
+use Rattle.tk_store.specs.Store.{StoreConstants}
 use Rattle.tk_store.specs.OneRecord.{call_changes}
 use Rattle.tk_append.specs.Opening.{first_fault}
 use Rattle.tk_append.specs.Untorn.{IsUntornBy, UntornFrom, IsKnownHead, IsKnownBody, AnyWrite, WritesHead, WritesBody, places_on}
 use Rattle.tk_hash.specs.declared.store.HashStore.{HashStore}
-use Rattle.tk_hash.specs.Hash.{HashStands, RestoresTo, opening, map_in, hash_disk, hash_head, hash_nature}
+use Rattle.tk_hash.specs.Hash.{HashStands, RestoresTo, opening, map_in, hash_disk, hash_head, hash_constants}
 use Rattle.tk_util.specs.Calls.{alone}
 use Rattle.tk_util.specs.Interrupted.{MayAdd, RestoresEither, IsInterrupted, IsUnopened, Interrupts, InterruptsCommand}
 use Rattle.tk_util.specs.Ran.{reply_changes}
@@ -80,17 +80,17 @@ module _ {D : Type 0} (image : D → Option (List ℕ)) (may_leave : D → List 
   -- of a file that was opened
   pub interrupted_at : (a : Option (List ℕ)) (disk : D) (s u : HashStore D) (v : D) (w : Bool) (changes : List Pair → List Change)
       → IfSome a (λ f. first_fault (1 ∷ []) w alone f ≡ None) → Opened image may_leave past s a → s.writable ≡ w → w ≡ true → is_some (image (hash_disk s)) ≡ is_some a → v ≡ hash_disk u
-      → is_some (map_in image u) ≡ is_some (map_in image s) → hash_nature u ≡ hash_nature s → moment disk ≤ moment (hash_disk s) → moment (hash_disk s) ≤ moment (hash_disk u)
+      → is_some (map_in image u) ≡ is_some (map_in image s) → hash_constants u ≡ hash_constants s → moment disk ≤ moment (hash_disk s) → moment (hash_disk s) ≤ moment (hash_disk u)
       → ((groups : List Group) → HashStands image may_leave past s (opening groups) [] 0 → IfSome (image (hash_disk s)) (λ f. SafeSince image may_leave past moment left_since left_with s u groups (changes (replay Hash groups []))))
       → IfSome a (λ f. Interrupts (λ groups. changes (replay Hash groups [])) f (moment disk) (moment v) (may_leave disk) (left_since disk) (left_since v) (left_with v))
-  interrupted_at None disk s u v w changes accepted opened mode may told same still nature first last safe = tt
-  interrupted_at (Some f) disk s u v w changes accepted opened mode may told same still nature first last safe =
+  interrupted_at None disk s u v w changes accepted opened mode may told same still constants first last safe = tt
+  interrupted_at (Some f) disk s u v w changes accepted opened mode may told same still constants first last safe =
       let groups : List Group = opened.0 in
       let all : SafeSince image may_leave past moment left_since left_with s u groups (changes (replay Hash groups [])) = known (image (hash_disk s)) _ told (safe groups opened.1) in
       let there : is_some (image (hash_disk u)) ≡ true = unmapped _ _ (image (hash_disk s)) (image (hash_disk u)) still ∙ told in
       let restores : (x : Past × List ℕ) → left_with (hash_disk u) (moment (hash_disk s)) x → IsUntornBy (hash_head s) x.0 x.1 → RestoresTo groups all.0 0 x.1 =
-      λ x l untorn. known (image (hash_disk u)) _ there (all.2.each (ap (λ (n : Nature). n.writable) nature ∙ (mode ∙ may))) x l
-      (untorn_by (hash_head s) (hash_head u) x.0 x.1 (same_p (hash_head s) (hash_head u) (ap (λ (n : Nature). n.header) (sym nature))) untorn) in
+      λ x l untorn. known (image (hash_disk u)) _ there (all.2.each (ap (λ (n : StoreConstants). n.writable) constants ∙ (mode ∙ may))) x l
+      (untorn_by (hash_head s) (hash_head u) x.0 x.1 (same_p (hash_head s) (hash_head u) (ap (λ (n : StoreConstants). n.header) (sym constants))) untorn) in
       inl (subst (λ (d : D). IsInterrupted (λ groups. changes (replay Hash groups [])) f (moment disk) (moment d) (left_with d)) (sym same) (record {
         holds = record { accepted = subst (λ (b : Bool). first_fault (1 ∷ []) b alone f ≡ None) may accepted; head = hash_head s; groups = groups; next = s.next; file = opened.2 };
         since = all.0;

@@ -16,7 +16,7 @@ use Rattle.tk_util.specs.declared.words.FileCommand.TheVariants as asked
 use Rattle.tk_util.specs.Asked.{file_said, set_said}
 use Rattle.tk_util.specs.Done.{IsMade, CallDone, GetDone, SetDone, FreshAnswer, CommandDone, NotTaken, RanOnFile, counted_answer}
 use Rattle.tk_util.specs.Ends.{call_end}
-use Rattle.tk_util.specs.Ran.{RanSet, RanFile, Settled, IsClear, IsClearEnd, IsRunStatus, RoseOf, OnlyFile, file_of, creates, set_text}
+use Rattle.tk_util.specs.Ran.{RanSet, RanFile, EndsClearly, IsClear, IsClearEnd, IsRunStatus, RoseOf, OnlyFile, file_of, creates, set_text}
 use Rattle.tk_util.specs.Words.{SetWords}
 use Rattle.tk_util.specs.World.{World}
 use Rattle.tk_util.proofs.Endings.{ran, ran_absent, ran_stopped, empty_refused, there, has_bytes, told_call, found_call, not_status}
@@ -125,7 +125,7 @@ module _ (before after : World) where
     not_taken stops.NoMemory finish why is = stopped a value finish (inr is) none same only
 
     -- that is as an end without a fault
-    pub not_taken_settled : (stop : Stop) → NotTaken (creates (file_said a)) tells (before.files (file_in a)) stop → Settled (file_said a) before after
+    pub not_taken_settled : (stop : Stop) → NotTaken (creates (file_said a)) tells (before.files (file_in a)) stop → EndsClearly (file_said a) before after
     not_taken_settled (stops.Refused place) why = (refused_at 0 place, clear_end a 3 (inr (inl refl)), file_ran a before after value (refused_at 0 place) (not_taken (stops.Refused place) (refused_at 0 place) why refl))
     not_taken_settled stops.Full why = absurd why
     not_taken_settled stops.Fault why = (ended 5, clear_end a 5 (inr (inr (inl refl))), file_ran a before after value (ended 5) (stopped a value (ended 5) (inr refl) none same only))

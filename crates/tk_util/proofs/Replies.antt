@@ -13,7 +13,7 @@ use Rattle.tk_proc.specs.Runs.{is_long, short, action_changes}
 use Rattle.tk_store.specs.OneRecord.{call_changes}
 use Rattle.tk_util.specs.declared.call.Stop.{Stop}
 use Rattle.tk_util.specs.declared.call.Stop.TheVariants.{Refused, Full, Fault, NoMemory}
-use Rattle.tk_util.specs.Calls.{Made, NoRoom, RefusedAt, passes, called_file}
+use Rattle.tk_util.specs.Calls.{Made, NoRoom, RefusedAt, exceeds_limit, called_file}
 use Rattle.tk_util.specs.Ran.{value_in, reply_changes}
 use Rattle.tk_util.specs.Done.{IsMade, CallDone, GetDone, with_status}
 
@@ -31,7 +31,7 @@ module _ {P : Type 0} (acts : P → List ℕ → Option (List ℕ) → Action) (
   made_is writable f new after status m = record {
     holds = m.holds;
     was_is = refl;
-    room = ap (λ (cs : List Change). passes f cs) (sym (changes_same m.holds.groups)) ∙ ap (λ (g : List ℕ). passes g (call_changes acts old key (replay Hash m.holds.groups []))) m.holds.file ∙ m.made.room;
+    room = ap (λ (cs : List Change). exceeds_limit f cs) (sym (changes_same m.holds.groups)) ∙ ap (λ (g : List ℕ). exceeds_limit g (call_changes acts old key (replay Hash m.holds.groups []))) m.holds.file ∙ m.made.room;
     after_is = m.made.after_is ∙ ap (λ (cs : List Change). Some (called_file writable m.holds.head m.holds.groups m.holds.next cs)) (changes_same m.holds.groups);
   }
 
@@ -45,7 +45,7 @@ module _ {P : Type 0} (acts : P → List ℕ → Option (List ℕ) → Action) (
       let n = full refl in
       record {
         holds = n.holds;
-        full = ap (λ (cs : List Change). passes f cs) (sym (changes_same n.holds.groups)) ∙ ap (λ (g : List ℕ). passes g (call_changes acts old key (replay Hash n.holds.groups []))) n.holds.file ∙ n.full.full;
+        full = ap (λ (cs : List Change). exceeds_limit f cs) (sym (changes_same n.holds.groups)) ∙ ap (λ (g : List ℕ). exceeds_limit g (call_changes acts old key (replay Hash n.holds.groups []))) n.holds.file ∙ n.full.full;
         after_is = n.full.after_is ∙ ap (λ (g : List ℕ). Some g) (sym n.holds.file);
       }
   done_of writable f new after (Err Fault) s made full refused memory status = tt

@@ -338,4 +338,4 @@ only_to old mid new name same others = λ m ne. others m ne ∙ same m
 
 -- the same, from what stood there before
 pub settled_at : {P : Type 0} (image : List ℕ) (before between after : Option (List ℕ)) → between ≡ before → ((end : Finish) × IsWriteEnd end × (end.status ≢ 4) × WroteNew image between after end) ⊎ P → ((end : Finish) × IsWriteEnd end × (end.status ≢ 4) × WroteNew image before after end) ⊎ P
-settled_at {P = P} image before between after same settled = subst (λ (o : Option (List ℕ)). ((end : Finish) × IsWriteEnd end × (end.status ≢ 4) × WroteNew image o after end) ⊎ P) same settled
+settled_at {P = P} image before between after same ends_clearly = subst (λ (o : Option (List ℕ)). ((end : Finish) × IsWriteEnd end × (end.status ≢ 4) × WroteNew image o after end) ⊎ P) same ends_clearly

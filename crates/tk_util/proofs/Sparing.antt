@@ -19,15 +19,15 @@ use Rattle.tk_block.specs.Text.{static_text, closing_text, base_of}
 use Rattle.tk_block.specs.Layout.{laid, links_of, end_of, texts, bodies_of, heads_text}
 use Rattle.tk_block.proofs.Grammar.{length-static_text, length-closing_text}
 use Rattle.tk_block.proofs.Lengths.{length-heads_text}
-use Rattle.tk_store.specs.Store.{Nature, First, LeavesSafe}
+use Rattle.tk_store.specs.Store.{StoreConstants, First, LeavesSafe}
 use Rattle.tk_append.specs.Log.{closed_text, blocks_of}
 use Rattle.tk_append.specs.Opening.{first_fault}
 use Rattle.tk_append.specs.Restored.{groups_text, IsKept}
 use Rattle.tk_append.proofs.Restoring.{torn_kept}
 use Rattle.tk_hash.specs.declared.store.HashStore.{HashStore}
-use Rattle.tk_hash.specs.Hash.{HashStands, HashSafe, HashStood, opening, map_in, hash_disk, hash_head, hash_nature}
+use Rattle.tk_hash.specs.Hash.{HashStands, HashSafe, HashKeptSince, opening, map_in, hash_disk, hash_head, hash_constants}
 use Rattle.tk_hash.specs.HashLaws.{hash_stood_now}
-use Rattle.tk_util.specs.Calls.{alone, Holds, Spares}
+use Rattle.tk_util.specs.Calls.{alone, HoldsDatabase, Spares}
 use Rattle.tk_util.specs.Interrupted.{MayAdd}
 use Rattle.tk_util.proofs.CallSteps.{same_p, by_text, known, map_is, told_map, Opened}
 
@@ -88,7 +88,7 @@ unfolding first_fault
 empty_fault = refl
 
 -- a hash file has bytes
-pub has_header : (f : List ℕ) → Holds true f → f ≢ []
+pub has_header : (f : List ℕ) → HoldsDatabase true f → f ≢ []
 has_header f holds e = absurd (cc (subst (λ (x : List ℕ). first_fault (1 ∷ []) true alone x ≡ None) e holds.accepted, empty_fault))
 
 module _ {D : Type 0} (image : D → Option (List ℕ)) (may_leave : D → List ℕ → Type 0) (past : D → Past) (moment : D → ℕ) (left_since : D → ℕ → List ℕ → Type 0) (left_with : D → ℕ → Past × List ℕ → Type 0) where
@@ -99,58 +99,58 @@ module _ {D : Type 0} (image : D → Option (List ℕ)) (may_leave : D → List 
   module _ (only : (d : D) (c : List ℕ) → left_since d (moment d) c → may_leave d c) (with : (d : D) (x : Past × List ℕ) → left_with d (moment d) x → (x.0 ≡ past d) × may_leave d x.1)
       (back : (d : D) (t : ℕ) (x : Past × List ℕ) → left_with d t x → left_since d t x.1) (s : HashStore D) (groups : List Group) (st : HashStands image may_leave past s (opening groups) [] 0)
       (changes : List Pair → List Change) (number : ℕ) (numbered : number ≡ s.next) where
-    stood : HashStood image may_leave past moment left_since left_with s (moment (hash_disk s)) 0 (opening groups) [] 0
-    stood = hash_stood_now image may_leave past moment left_since left_with only with back s (opening groups) [] 0 st
+    kept_since : HashKeptSince image may_leave past moment left_since left_with s (moment (hash_disk s)) 0 (opening groups) [] 0
+    kept_since = hash_stood_now image may_leave past moment left_since left_with only with back s (opening groups) [] 0 st
 
     -- those of the call
     added : group_of number (changes (replay Hash groups [])) ≡ group_of s.next (changes (replay Hash groups []))
     added = ap (λ (n : ℕ). group_of n (changes (replay Hash groups []))) numbered
 
     -- after a call that failed
-    pub safe_failed : (u : HashStore D) → IfSome (map_in image s) (λ m. LeavesSafe (HashStood image may_leave past moment left_since left_with) (HashSafe image left_since left_with) (group_of number (changes m)) s u)
+    pub safe_failed : (u : HashStore D) → IfSome (map_in image s) (λ m. LeavesSafe (HashKeptSince image may_leave past moment left_since left_with) (HashSafe image left_since left_with) (group_of number (changes m)) s u)
         → IfSome (image (hash_disk s)) (λ f. SafeSince s u groups (changes (replay Hash groups [])))
     safe_failed u leaves =
-        told_map (image (hash_disk s)) (map_in image s) (replay Hash groups []) (λ m. LeavesSafe (HashStood image may_leave past moment left_since left_with) (HashSafe image left_since left_with) (group_of number (changes m)) s u)
+        told_map (image (hash_disk s)) (map_in image s) (replay Hash groups []) (λ m. LeavesSafe (HashKeptSince image may_leave past moment left_since left_with) (HashSafe image left_since left_with) (group_of number (changes m)) s u)
         (SafeSince s u groups (changes (replay Hash groups [])))
-        (map_is image may_leave past s groups st) leaves (λ safe. (group_of number (changes (replay Hash groups [])), inr added, safe (moment (hash_disk s)) 0 (opening groups) [] 0 stood))
+        (map_is image may_leave past s groups st) leaves (λ safe. (group_of number (changes (replay Hash groups [])), inr added, safe (moment (hash_disk s)) 0 (opening groups) [] 0 kept_since))
 
     -- after one that was made, and the end
     pub safe_made : (t u : HashStore D)
-        → IfSome (map_in image s) (λ m. (at n : ℕ) (first : First) (since : List Group) (hard : ℕ) → HashStood image may_leave past moment left_since left_with s at n first since hard
-        → HashStood image may_leave past moment left_since left_with t at n first (since ++ group_of number (changes m)) hard)
-        → LeavesSafe (HashStood image may_leave past moment left_since left_with) (HashSafe image left_since left_with) [] t u → IfSome (image (hash_disk s)) (λ f. SafeSince s u groups (changes (replay Hash groups [])))
+        → IfSome (map_in image s) (λ m. (at n : ℕ) (first : First) (since : List Group) (hard : ℕ) → HashKeptSince image may_leave past moment left_since left_with s at n first since hard
+        → HashKeptSince image may_leave past moment left_since left_with t at n first (since ++ group_of number (changes m)) hard)
+        → LeavesSafe (HashKeptSince image may_leave past moment left_since left_with) (HashSafe image left_since left_with) [] t u → IfSome (image (hash_disk s)) (λ f. SafeSince s u groups (changes (replay Hash groups [])))
     safe_made t u grown leaves =
         told_map (image (hash_disk s)) (map_in image s) (replay Hash groups [])
-        (λ m. (at n : ℕ) (first : First) (since : List Group) (hard : ℕ) → HashStood image may_leave past moment left_since left_with s at n first since hard
-        → HashStood image may_leave past moment left_since left_with t at n first (since ++ group_of number (changes m)) hard) (SafeSince s u groups (changes (replay Hash groups [])))
+        (λ m. (at n : ℕ) (first : First) (since : List Group) (hard : ℕ) → HashKeptSince image may_leave past moment left_since left_with s at n first since hard
+        → HashKeptSince image may_leave past moment left_since left_with t at n first (since ++ group_of number (changes m)) hard) (SafeSince s u groups (changes (replay Hash groups [])))
         (map_is image may_leave past s groups st) grown
         (λ on. (
           group_of number (changes (replay Hash groups [])) ++ [],
           inr (append-nil (group_of number (changes (replay Hash groups []))) ∙ added),
-          leaves (moment (hash_disk s)) 0 (opening groups) (group_of number (changes (replay Hash groups []))) 0 (on (moment (hash_disk s)) 0 (opening groups) [] 0 stood),
+          leaves (moment (hash_disk s)) 0 (opening groups) (group_of number (changes (replay Hash groups []))) 0 (on (moment (hash_disk s)) 0 (opening groups) [] 0 kept_since),
         ))
 
     -- after one that was refused, and the end
-    pub safe_refused : (t u : HashStore D) → ((at n : ℕ) (first : First) (since : List Group) (hard : ℕ) → HashStood image may_leave past moment left_since left_with s at n first since hard
-        → HashStood image may_leave past moment left_since left_with t at n first since hard)
-        → LeavesSafe (HashStood image may_leave past moment left_since left_with) (HashSafe image left_since left_with) [] t u → IfSome (image (hash_disk s)) (λ f. SafeSince s u groups (changes (replay Hash groups [])))
+    pub safe_refused : (t u : HashStore D) → ((at n : ℕ) (first : First) (since : List Group) (hard : ℕ) → HashKeptSince image may_leave past moment left_since left_with s at n first since hard
+        → HashKeptSince image may_leave past moment left_since left_with t at n first since hard)
+        → LeavesSafe (HashKeptSince image may_leave past moment left_since left_with) (HashSafe image left_since left_with) [] t u → IfSome (image (hash_disk s)) (λ f. SafeSince s u groups (changes (replay Hash groups [])))
     safe_refused t u kept leaves = always (image (hash_disk s)) (SafeSince s u groups (changes (replay Hash groups [])))
-        ([], inl refl, leaves (moment (hash_disk s)) 0 (opening groups) [] 0 (kept (moment (hash_disk s)) 0 (opening groups) [] 0 stood))
+        ([], inl refl, leaves (moment (hash_disk s)) 0 (opening groups) [] 0 (kept (moment (hash_disk s)) 0 (opening groups) [] 0 kept_since))
 
   module _ (counts : (d : D) (t : ℕ) (c : List ℕ) → t ≤ moment d → may_leave d c → left_since d t c) where
     -- a file that was opened is spared
     pub spared_at : (a : Option (List ℕ)) (s u : HashStore D) (v : D) (left : List ℕ → Type 0) → Opened image may_leave past s a → s.writable ≡ true → is_some (image (hash_disk s)) ≡ is_some a → v ≡ hash_disk u
-        → is_some (map_in image u) ≡ is_some (map_in image s) → hash_nature u ≡ hash_nature s → moment (hash_disk s) ≤ moment (hash_disk u)
+        → is_some (map_in image u) ≡ is_some (map_in image s) → hash_constants u ≡ hash_constants s → moment (hash_disk s) ≤ moment (hash_disk u)
         → (changes : List Pair → List Change) → ((groups : List Group) → HashStands image may_leave past s (opening groups) [] 0 → IfSome (image (hash_disk s)) (λ f. SafeSince s u groups (changes (replay Hash groups [])))) → IfSome a (λ f. Spares f left (may_leave v))
-    spared_at None s u v left opened may told same still nature later changes safe = tt
-    spared_at (Some f) s u v left opened may told same still nature later changes safe = λ holds before c leaves.
+    spared_at None s u v left opened may told same still constants later changes safe = tt
+    spared_at (Some f) s u v left opened may told same still constants later changes safe = λ holds before c leaves.
         let groups : List Group = opened.0 in
         let all : SafeSince s u groups (changes (replay Hash groups [])) = known (image (hash_disk s)) _ told (safe groups opened.1) in
         let there : is_some (image (hash_disk u)) ≡ true = unmapped _ _ (image (hash_disk s)) (image (hash_disk u)) still ∙ told in
-        let kept : (c : List ℕ) → left_since (hash_disk u) (moment (hash_disk s)) c → IsKept (hash_head u) (groups ++ []) c = known (image (hash_disk u)) _ there (all.2.kept (ap (λ (n : Nature). n.writable) nature ∙ may)) in
+        let kept : (c : List ℕ) → left_since (hash_disk u) (moment (hash_disk s)) c → IsKept (hash_head u) (groups ++ []) c = known (image (hash_disk u)) _ there (all.2.kept (ap (λ (n : StoreConstants). n.writable) constants ∙ may)) in
         let now : may_leave (hash_disk u) c = subst (λ (d : D). may_leave d c) same leaves in
         closed_kept (hash_head s) holds.head groups holds.groups s.next holds.next c (sym opened.2 ∙ holds.file)
-        (head_kept (hash_head u) (hash_head s) groups c (ap (λ (n : Nature). n.header) nature) (kept c (counts (hash_disk u) (moment (hash_disk s)) c later now)))
+        (head_kept (hash_head u) (hash_head s) groups c (ap (λ (n : StoreConstants). n.header) constants) (kept c (counts (hash_disk u) (moment (hash_disk s)) c later now)))
 
     -- and one that was not
     pub spared_back : (a : Option (List ℕ)) (old new : D) → LeavesOnly moment left_since old new (λ c. (d : List ℕ) × may_leave old d × Torn 32 32 d c) → IfSome a (λ f. Spares f (may_leave old) (may_leave new))

@@ -26,9 +26,9 @@ file_said (on_file.Set s) = Set (set_said s)
 file_said (on_file.Remove k) = Remove (key_said k)
 
 -- the command that is asked
-abbrev pub said : Asked → Command
-said (asked.OnFile a) = file_said a
-said (asked.Restore r) = Restore (restore_said r)
+abbrev pub command_asked : Asked → Command
+command_asked (asked.OnFile a) = file_said a
+command_asked (asked.Restore r) = Restore (restore_said r)
 
 -- all operands, in order
 abbrev pub all_of : Operands → List (List ℕ)

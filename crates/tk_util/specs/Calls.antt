@@ -10,7 +10,7 @@ use Rattle.tk_model.specs.declared.record.ShardOf.{ShardOf}
 use Rattle.tk_model.specs.declared.error.OpenError.{OpenError}
 use Rattle.tk_model.specs.declared.error.OpenError.TheVariants as errors
 use Rattle.tk_status.specs.declared.Status.{Status}
-use Rattle.tk_proc.specs.Runs.{short_status}
+use Rattle.tk_proc.specs.Runs.{status_unless_long}
 use Rattle.tk_disk.specs.Crash.{Within}
 use Rattle.tk_store.specs.Store.{extent_of, is_over}
 use Rattle.tk_store.specs.OneRecord.{call_changes}
@@ -26,7 +26,7 @@ abbrev pub alone : ShardOf
 alone = record { index = 0; of = 1 }
 
 -- a file is a hash file that an opening accepts, and holds these groups
-pub record Holds (writable : Bool) (f : List ℕ) : Type 0 where
+pub record HoldsDatabase (writable : Bool) (f : List ℕ) : Type 0 where
   pub accepted : first_fault (1 ∷ []) writable alone f ≡ None
   pub head : StaticHead
   pub groups : List Group
@@ -35,7 +35,7 @@ pub record Holds (writable : Bool) (f : List ℕ) : Type 0 where
 
 -- where each image of a file has the header and the blocks of its groups, each later image has them
 abbrev pub Spares : (f : List ℕ) → (left leaves : List ℕ → Type 0) → Type 0
-Spares f left leaves = (holds : Holds true f) → ((d : List ℕ) → left d → IsKept holds.head holds.groups d) → (c : List ℕ) → leaves c → IsKept holds.head holds.groups c
+Spares f left leaves = (holds : HoldsDatabase true f) → ((d : List ℕ) → left d → IsKept holds.head holds.groups d) → (c : List ℕ) → leaves c → IsKept holds.head holds.groups c
 
 -- a disk was read at most: it holds what it held, and a crash leaves nothing that it didn't before
 pub record IsStill (before after : Option (List ℕ)) (left leaves : List ℕ → Type 0) : Type 0 where
@@ -43,8 +43,8 @@ pub record IsStill (before after : Option (List ℕ)) (left leaves : List ℕ �
   pub crash : Within left leaves
 
 -- the bytes that changes need pass the limit of a file
-abbrev pub passes : (f : List ℕ) → List Change → Bool
-passes f changes = is_over (length f) (sum_by (extent_of 1) changes) (2 ^ 40) changes
+abbrev pub exceeds_limit : (f : List ℕ) → List Change → Bool
+exceeds_limit f changes = is_over (length f) (sum_by (extent_of 1) changes) (2 ^ 40) changes
 
 -- the file of these groups after a call under the next number: where it was opened for writing it has a group more, if something changed, and the next number is one more
 abbrev pub called_file : (writable : Bool) → StaticHead → List Group → (next : ℕ) → List Change → List ℕ
@@ -53,23 +53,23 @@ called_file writable h groups next changes = if writable then closed_text h (gro
 module _ {P : Type 0} (acts : P → List ℕ → Option (List ℕ) → Action) (turns : P → List ℕ → Option (List ℕ) → P) where
   -- the call of a processor at a key was made on the records of these groups
   pub record MadeOn (h : StaticHead) (groups : List Group) (next : ℕ) (writable : Bool) (key : List ℕ) (old new : P) (after : Option (List ℕ)) (status : Status) : Type 0 where
-    pub status_is : status ≡ short_status (acts old key (find key (replay Hash groups [])))
+    pub status_is : status ≡ status_unless_long (acts old key (find key (replay Hash groups [])))
     pub turned : new ≡ turns old key (find key (replay Hash groups []))
-    pub room : passes (closed_text h groups next) (call_changes acts old key (replay Hash groups [])) ≡ false
+    pub room : exceeds_limit (closed_text h groups next) (call_changes acts old key (replay Hash groups [])) ≡ false
     pub after_is : after ≡ Some (called_file writable h groups next (call_changes acts old key (replay Hash groups [])))
 
   pub record Made (writable : Bool) (f key : List ℕ) (old new : P) (after : Option (List ℕ)) (status : Status) : Type 0 where
-    pub holds : Holds writable f
+    pub holds : HoldsDatabase writable f
     pub made : MadeOn holds.head holds.groups holds.next writable key old new after status
 
 module _ {P : Type 0} (acts : P → List ℕ → Option (List ℕ) → Action) where
   -- there was no room for it
   pub record NoRoomOn (h : StaticHead) (groups : List Group) (next : ℕ) (key : List ℕ) (old : P) (after : Option (List ℕ)) : Type 0 where
-    pub full : passes (closed_text h groups next) (call_changes acts old key (replay Hash groups [])) ≡ true
+    pub full : exceeds_limit (closed_text h groups next) (call_changes acts old key (replay Hash groups [])) ≡ true
     pub after_is : after ≡ Some (closed_text h groups next)
 
   pub record NoRoom (writable : Bool) (f key : List ℕ) (old : P) (after : Option (List ℕ)) : Type 0 where
-    pub holds : Holds writable f
+    pub holds : HoldsDatabase writable f
     pub full : NoRoomOn holds.head holds.groups holds.next key old after
 
 -- the place by which a refusal is told: 0 where there is no header

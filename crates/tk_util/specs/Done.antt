@@ -2,7 +2,7 @@
 use Rattle.std.specs.Prelude.{◌≡◌, ◌≢◌, ◌≤◌, ℕ, List, [], Bool, true, false, Option, Some, None, IsSome, IfSome, Result, Ok, Err, IfOk, OnOk}
 use Rattle.tk_status.specs.declared.Status.{Status}
 use Rattle.tk_status.specs.declared.Status.TheVariants.{Success}
-use Rattle.tk_util.specs.Calls.{Holds, passes, called_file, RefusedAt}
+use Rattle.tk_util.specs.Calls.{HoldsDatabase, exceeds_limit, called_file, RefusedAt}
 use Rattle.tk_proc.specs.Replies.{Reply, get_reply, set_reply, remove_reply}
 use Rattle.tk_status.specs.declared.finish.Finish.{Finish}
 use Rattle.tk_disk.specs.Crash.{Within, Only}
@@ -26,14 +26,14 @@ stop_of errors.NoMemory = stops.NoMemory
 
 -- the call was made, and its change is in the file
 pub record IsMade (writable : Bool) (reply : Option (List ℕ) → Reply) (key f : List ℕ) (after : Option (List ℕ)) (was : Option (List ℕ)) : Type 0 where
-  pub holds : Holds writable f
+  pub holds : HoldsDatabase writable f
   pub was_is : was ≡ value_in holds.groups key
-  pub room : passes f (reply_changes reply holds.groups key) ≡ false
+  pub room : exceeds_limit f (reply_changes reply holds.groups key) ≡ false
   pub after_is : after ≡ Some (called_file writable holds.head holds.groups holds.next (reply_changes reply holds.groups key))
 
 pub record IsFull (writable : Bool) (reply : Option (List ℕ) → Reply) (key f : List ℕ) (after : Option (List ℕ)) : Type 0 where
-  pub holds : Holds writable f
-  pub full : passes f (reply_changes reply holds.groups key) ≡ true
+  pub holds : HoldsDatabase writable f
+  pub full : exceeds_limit f (reply_changes reply holds.groups key) ≡ true
   pub after_is : after ≡ Some f
 
 abbrev pub CallDone : (writable : Bool) (reply : Option (List ℕ) → Reply) (key f : List ℕ) (after : Option (List ℕ)) → Result Status Stop → Type 0
@@ -116,7 +116,7 @@ NotTaken create tells before stops.NoMemory = Unit {0}
 pub record LookedUp (c : KeyWords) (before after : World) (value : Option (List ℕ)) (finish : Finish) : Type 0 where
   pub call : RanCall false get_reply c.key (before.files c.file) (after.files c.file) finish
   pub files : (name : List ℕ) → after.files name ≡ before.files name
-  pub found : finish.status ≡ 0 → (h : Holds false (or_empty (before.files c.file))) × (value ≡ value_in h.groups c.key) × IsSome value
+  pub found : finish.status ≡ 0 → (h : HoldsDatabase false (or_empty (before.files c.file))) × (value ≡ value_in h.groups c.key) × IsSome value
 
 -- a command on one file, as far as it prints nothing
 abbrev pub RanOnFile : FileCommand → (before after : World) (value : Option (List ℕ)) → Finish → Type 0

@@ -11,7 +11,7 @@ use Rattle.tk_disk.specs.Crash.{Torn}
 use Rattle.tk_append.specs.Restored.{restored_groups}
 use Rattle.tk_append.specs.Untorn.{IsUntornBy}
 use Rattle.tk_hash.specs.Hash.{RestoresTo}
-use Rattle.tk_util.specs.Calls.{Holds}
+use Rattle.tk_util.specs.Calls.{HoldsDatabase}
 use Rattle.tk_util.specs.Ran.{reply_changes}
 use Rattle.tk_util.specs.Words.{Command, Get, Set, Remove, Restore}
 
@@ -27,7 +27,7 @@ RestoresEither groups more image =
 -- The file was opened, and at each moment since then an image that is untorn by what had been written restores to the groups
 -- that the file held and a front of the call's: so to the records before the call, or to those after it.
 pub record IsInterrupted (changes : List Group → List Change) (f : List ℕ) (before now : ℕ) (left_with : ℕ → Past × List ℕ → Type 0) : Type 0 where
-  pub holds : Holds true f
+  pub holds : HoldsDatabase true f
   pub since : List Group
   pub added : MayAdd holds.next (changes holds.groups) since
   -- the moment at which it was opened

@@ -16,7 +16,7 @@ use Rattle.tk_block.specs.declared.head.StaticHead.{StaticHead}
 use Rattle.tk_block.specs.Layout.{file_text}
 use Rattle.tk_block.specs.Text.{static_at}
 use Rattle.tk_restore.specs.Restoration.{restored_file, restored_size}
-use Rattle.tk_util.specs.Calls.{Holds, passes, called_file, RefusedAt}
+use Rattle.tk_util.specs.Calls.{HoldsDatabase, exceeds_limit, called_file, RefusedAt}
 use Rattle.tk_disk.specs.Disk.{Rose}
 use Rattle.tk_util.specs.Words.{Command, Get, Set, Remove, Restore, KeyWords, SetWords, RestoreWords}
 use Rattle.tk_util.specs.World.{World}
@@ -39,16 +39,16 @@ reply_changes reply groups key = action_changes key (value_in groups key) (reply
 
 -- a call was made on the records of a file, replied so, and its change is in the file
 pub record Replied (writable : Bool) (reply : Option (List ℕ) → Reply) (key f : List ℕ) (after : Option (List ℕ)) (finish : Finish) : Type 0 where
-  pub holds : Holds writable f
+  pub holds : HoldsDatabase writable f
   pub ends : finish ≡ ended_by (reply (value_in holds.groups key)).status
-  pub room : passes f (reply_changes reply holds.groups key) ≡ false
+  pub room : exceeds_limit f (reply_changes reply holds.groups key) ≡ false
   pub after_is : after ≡ Some (called_file writable holds.head holds.groups holds.next (reply_changes reply holds.groups key))
 
 -- the file would pass its limit, and stays
 pub record Filled (writable : Bool) (reply : Option (List ℕ) → Reply) (key f : List ℕ) (after : Option (List ℕ)) (finish : Finish) : Type 0 where
-  pub holds : Holds writable f
+  pub holds : HoldsDatabase writable f
   pub ends : finish ≡ answered 21
-  pub full : passes f (reply_changes reply holds.groups key) ≡ true
+  pub full : exceeds_limit f (reply_changes reply holds.groups key) ≡ true
   pub after_is : after ≡ Some f
 
 -- the file was refused, and stays
@@ -85,7 +85,7 @@ pub record RanRemove (c : KeyWords) (before after : World) (finish : Finish) : T
 
 -- the value at a key in a file, as a line
 pub record IsLine (key f line : List ℕ) : Type 0 where
-  pub holds : Holds false f
+  pub holds : HoldsDatabase false f
   pub value : List ℕ
   pub found : value_in holds.groups key ≡ Some value
   pub line_is : line ≡ value ++ 10 ∷ []
@@ -172,8 +172,8 @@ IsClearEnd (Remove c) status = IsClear status
 IsClearEnd (Restore c) status = (status ≡ 0) ⊎ ((status ≡ 3) ⊎ ((status ≡ 5) ⊎ (status ≡ 7)))
 
 -- the file is as an end without a fault leaves it
-abbrev pub Settled : Command → (before after : World) → Type 0
-Settled c before after = (end : Finish) × IsClearEnd c end.status × RanFile c before after end
+abbrev pub EndsClearly : Command → (before after : World) → Type 0
+EndsClearly c before after = (end : Finish) × IsClearEnd c end.status × RanFile c before after end
 
 -- a command whose words were read ends with one of these statuses
 abbrev pub IsRunStatus : Command → ℕ → Type 0

@@ -65,8 +65,8 @@ restore_words (f ∷ t ∷ []) = if is_hash_name f && is_hash_name t && not (byt
 restore_words words = None
 
 -- `get FILE KEY`, `set FILE KEY VALUE`, `remove FILE KEY`, `restore OLD NEW`
-abbrev pub asked : (command : List ℕ) → List (List ℕ) → Option Command
-asked c words =
+abbrev pub command_in : (command : List ℕ) → List (List ℕ) → Option Command
+command_in c words =
     if bytes_eq c (codes "get") then option_map Get (key_words words)
     else (if bytes_eq c (codes "set") then option_map Set (set_words words)
     else (if bytes_eq c (codes "remove") then option_map Remove (key_words words)
@@ -74,7 +74,7 @@ asked c words =
 
 abbrev pub asked_of : (command : List ℕ) → Option (List (List ℕ)) → Option Command
 asked_of c None = None
-asked_of c (Some words) = asked c words
+asked_of c (Some words) = command_in c words
 
 -- the first word names the command
 abbrev pub command_of : List (List ℕ) → Option Command

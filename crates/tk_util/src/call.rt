@@ -15,7 +15,7 @@ ghost use Rattle.tk_store.specs.Store.{IsWhole, LeavesSafe};
 ghost use Rattle.tk_util.specs.declared.call.Stop.{Stop as Stopped};
 ghost use Rattle.tk_util.specs.Calls.{Made, NoRoom, RefusedAt, MadeOn, NoRoomOn, StopTells, Spares, IsStill};
 ghost use Rattle.tk_util.specs.Done.{CrashDone, counted_answer, CallCounts};
-ghost use Rattle.tk_hash.specs.Hash.{HashStands, HashSafe, HashStood, HashUntouched, hash_disk, hash_head, hash_nature, hash_shown, opening};
+ghost use Rattle.tk_hash.specs.Hash.{HashStands, HashSafe, HashKeptSince, HashUntouched, hash_disk, hash_head, hash_constants, hash_view, opening};
 
 use std::alloc::Global;
 use tk_disk::{Disk, DiskError};
@@ -86,33 +86,33 @@ pub(crate) fn unopened(cause: OpenError) -> Stop
 /// Closes the store behind its call.
 fn end_call<D: Disk>(store: &mut HashStore<D>, next: u64) -> Result<(), Stop>
     requires whole { IsWhole (HashStands D.image D.may_leave D.past) store.old }
-    requires open { (hash_shown D.image store.old).closed ≡ false }
-    requires number { (hash_nature store.old).writable ≡ true
-        → (hash_shown D.image store.old).floor ≤ next }
-    requires below { (hash_nature store.old).writable ≡ true → next < 2 ^ 64 - 1 }
+    requires open { (hash_view D.image store.old).closed ≡ false }
+    requires number { (hash_constants store.old).writable ≡ true
+        → (hash_view D.image store.old).floor ≤ next }
+    requires below { (hash_constants store.old).writable ≡ true → next < 2 ^ 64 - 1 }
     ensures file { (groups since : List Group) (hard : ℕ)
         → HashStands D.image D.may_leave D.past store.old (opening groups) since hard
         → OnOk result (IfSome (D.image (hash_disk store.old)) (λ _. D.image (hash_disk store.new)
-        ≡ Some (if (hash_nature store.old).writable then closed_text (hash_head store.old)
+        ≡ Some (if (hash_constants store.old).writable then closed_text (hash_head store.old)
         (groups ++ since) next else closed_text (hash_head store.old) groups
-        (hash_nature store.old).next))) }
+        (hash_constants store.old).next))) }
     ensures stops { (stop : Stopped) → result ≡ Err stop → stop ≡ Stop.Fault }
     ensures kept { OnOk result (D.fault_count (hash_disk store.new)
         ≡ D.fault_count (hash_disk store.old)) }
     ensures later { D.fault_count (hash_disk store.old) ≤ D.fault_count (hash_disk store.new) }
     ensures fault { OnErr result
         (Rose (D.fault_count (hash_disk store.old)) (D.fault_count (hash_disk store.new))) }
-    ensures safe { LeavesSafe (HashStood D.image D.may_leave D.past D.moment D.left_since
+    ensures safe { LeavesSafe (HashKeptSince D.image D.may_leave D.past D.moment D.left_since
         D.left_with) (HashSafe D.image D.left_since D.left_with) [] store.old store.new }
-    ensures durable { (hash_nature store.old).writable ≡ true
+    ensures durable { (hash_constants store.old).writable ≡ true
         → OnOk result (IfSome (D.image (hash_disk store.new)) (λ f.
         Only f (D.may_leave (hash_disk store.new)))) }
-    ensures reads { (hash_nature store.old).writable ≡ false
+    ensures reads { (hash_constants store.old).writable ≡ false
         → HashUntouched D.image D.may_leave D.past D.moment D.left_since D.left_with store.old
         store.new }
-    ensures nature { hash_nature store.new ≡ hash_nature store.old }
-    ensures told { is_some (hash_shown D.image store.new).map
-        ≡ is_some (hash_shown D.image store.old).map }
+    ensures constants { hash_constants store.new ≡ hash_constants store.old }
+    ensures told { is_some (hash_view D.image store.new).map
+        ≡ is_some (hash_view D.image store.old).map }
     ensures time { D.moment (hash_disk store.old) ≤ D.moment (hash_disk store.new) }
 {
     match store.close(next) {
@@ -132,44 +132,44 @@ fn call_on<D: Disk, P: RecordProcessor>(
     requires key { length key.now ≤ 65535 }
     requires begun { (groups : List Group)
         × HashStands D.image D.may_leave D.past store.old (opening groups) [] 0 }
-    requires open { (hash_shown D.image store.old).closed ≡ false }
-    requires limit { (hash_nature store.old).limit ≡ 2 ^ 40 }
-    requires low { (hash_nature store.old).writable ≡ true → (hash_nature store.old).next ≤ 2 ^ 62 }
+    requires open { (hash_view D.image store.old).closed ≡ false }
+    requires limit { (hash_constants store.old).limit ≡ 2 ^ 40 }
+    requires low { (hash_constants store.old).writable ≡ true → (hash_constants store.old).next ≤ 2 ^ 62 }
     requires may { ((was : Option (List ℕ)) → P.acts p.old key.now was ≡ Keep)
-        ⊎ ((hash_nature store.old).writable ≡ true) }
+        ⊎ ((hash_constants store.old).writable ≡ true) }
     ensures made { (groups : List Group)
         → HashStands D.image D.may_leave D.past store.old (opening groups) [] 0
         → IfSome (D.image (hash_disk store.old)) (λ _.
-        IfOk result (MadeOn P.acts P.turns (hash_head store.old) groups (hash_nature store.old).next
-        (hash_nature store.old).writable key.now p.old p.new (D.image (hash_disk store.new)))) }
+        IfOk result (MadeOn P.acts P.turns (hash_head store.old) groups (hash_constants store.old).next
+        (hash_constants store.old).writable key.now p.old p.new (D.image (hash_disk store.new)))) }
     ensures no_room { (groups : List Group)
         → HashStands D.image D.may_leave D.past store.old (opening groups) [] 0
         → IfSome (D.image (hash_disk store.old)) (λ _.
         result ≡ Err Stop.Full → NoRoomOn P.acts (hash_head store.old) groups
-        (hash_nature store.old).next key.now p.old (D.image (hash_disk store.new))) }
+        (hash_constants store.old).next key.now p.old (D.image (hash_disk store.new))) }
     ensures no_memory { (groups : List Group)
         → HashStands D.image D.may_leave D.past store.old (opening groups) [] 0
         → IfSome (D.image (hash_disk store.old)) (λ _.
         result ≡ Err Stop.NoMemory
         → D.image (hash_disk store.new)
-        ≡ Some (closed_text (hash_head store.old) groups (hash_nature store.old).next)) }
+        ≡ Some (closed_text (hash_head store.old) groups (hash_constants store.old).next)) }
     ensures taken { (place : ℕ) → result ≡ Err (Stop.Refused place) → ⊥ }
     ensures safe { (groups : List Group)
         → HashStands D.image D.may_leave D.past store.old (opening groups) [] 0
         → IfSome (D.image (hash_disk store.old)) (λ _.
-        (since : List Group) × MayAdd (hash_nature store.old).next
+        (since : List Group) × MayAdd (hash_constants store.old).next
         (call_changes P.acts p.old key.now (replay Hash groups [])) since
         × HashSafe D.image D.left_since D.left_with store.new (D.moment (hash_disk store.old))
         (opening groups) since 0) }
-    ensures crash { (hash_nature store.old).writable ≡ true
+    ensures crash { (hash_constants store.old).writable ≡ true
         → CrashDone result (D.may_leave (hash_disk store.old)) (D.may_leave (hash_disk store.new))
         (D.image (hash_disk store.new)) }
-    ensures reads { (hash_nature store.old).writable ≡ false
+    ensures reads { (hash_constants store.old).writable ≡ false
         → IsStill (D.image (hash_disk store.old)) (D.image (hash_disk store.new))
         (D.may_leave (hash_disk store.old)) (D.may_leave (hash_disk store.new)) }
-    ensures nature { hash_nature store.new ≡ hash_nature store.old }
-    ensures told { is_some (hash_shown D.image store.new).map
-        ≡ is_some (hash_shown D.image store.old).map }
+    ensures constants { hash_constants store.new ≡ hash_constants store.old }
+    ensures told { is_some (hash_view D.image store.new).map
+        ≡ is_some (hash_view D.image store.old).map }
     ensures time { D.moment (hash_disk store.old) ≤ D.moment (hash_disk store.new) }
     ensures cause { HasCause Stop.Fault (D.fault_count (hash_disk store.old))
         (D.fault_count (hash_disk store.new)) result }

@@ -8,7 +8,7 @@ ghost use Rattle.tk_util.specs.Counts.{HasCause, HasExactCause, RoseIn, EndsByCo
 ghost use Rattle.tk_util.specs.Done.{CommandDone, CrashLeft, NotTaken, RanOnFile};
 ghost use Rattle.tk_util.specs.Interrupted.{InterruptsCommand};
 ghost use Rattle.tk_util.specs.Leaves.{LeavesToCrash, OthersWithin};
-ghost use Rattle.tk_util.specs.Ran.{Ran, Settled, RoseOf, IsRunStatus, IsEnd, file_of, writes};
+ghost use Rattle.tk_util.specs.Ran.{Ran, EndsClearly, RoseOf, IsRunStatus, IsEnd, file_of, writes};
 
 use crate::call::{Called, Stop, counted};
 use crate::end::{end_of, print};
@@ -104,8 +104,8 @@ fn run_unprinted<F: Folder>(
     ensures ran { (left held : Option (List ℕ)) → F.tells folder.old ≡ true
         → RanOnFile command.entry (record { files = F.file folder.old; left = left; held = held })
         (record { files = F.file folder.new; left = left; held = held }) getter.new result }
-    ensures settled { (left held : Option (List ℕ)) → F.tells folder.old ≡ true
-        → Settled (file_said command.entry)
+    ensures ends_clearly { (left held : Option (List ℕ)) → F.tells folder.old ≡ true
+        → EndsClearly (file_said command.entry)
         (record { files = F.file folder.old; left = left; held = held })
         (record { files = F.file folder.new; left = left; held = held })
         ⊎ RoseOf (file_said command.entry) (F.disk_faults folder.old) (F.disk_faults folder.new) }
@@ -153,8 +153,8 @@ pub(crate) fn run_on_file<F: Folder, W: Sink>(
         → Ran (file_said command.entry)
         (record { files = F.file folder.old; left = left; held = W.held out.old })
         (record { files = F.file folder.new; left = left; held = W.held out.new }) result }
-    ensures settled { (left held : Option (List ℕ)) → F.tells folder.old ≡ true
-        → Settled (file_said command.entry)
+    ensures ends_clearly { (left held : Option (List ℕ)) → F.tells folder.old ≡ true
+        → EndsClearly (file_said command.entry)
         (record { files = F.file folder.old; left = left; held = held })
         (record { files = F.file folder.new; left = left; held = held })
         ⊎ RoseOf (file_said command.entry) (F.disk_faults folder.old) (F.disk_faults folder.new) }

@@ -9,7 +9,7 @@ ghost use Rattle.tk_disk.specs.Disk.{Rose};
 ghost use Rattle.tk_status.specs.declared.finish.Finish.{Finish as End};
 ghost use Rattle.tk_util.specs.Counts.{HasCause, RoseIn, EndsByCounts};
 ghost use Rattle.tk_util.specs.Leaves.{LeavesToCrash};
-ghost use Rattle.tk_util.specs.Ran.{RanRestore, Settled, RoseOf, IsRunStatus, IsEnd, restore_fault};
+ghost use Rattle.tk_util.specs.Ran.{RanRestore, EndsClearly, RoseOf, IsRunStatus, IsEnd, restore_fault};
 ghost use Rattle.tk_util.specs.Restoring.{ImageRead, IsReadStop, NewWritten, IsWriteStop, ReadStopped, WroteNew, IsWriteEnd};
 ghost use Rattle.tk_util.specs.Words.{Restore};
 
@@ -112,7 +112,7 @@ fn write_to<F: Folder>(
     requires home { NoneOut (F.is_out folder.old) }
     ensures wrote { F.tells folder.old ≡ true → (image : List ℕ) → IsReadFrom image restoration.now
         → WroteNew image (F.file folder.old name.now) (F.file folder.new name.now) result }
-    ensures settled { F.tells folder.old ≡ true → (image : List ℕ)
+    ensures ends_clearly { F.tells folder.old ≡ true → (image : List ℕ)
         → IsReadFrom image restoration.now
         → ((end : End) × IsWriteEnd end × (end.status ≢ 4)
         × WroteNew image (F.file folder.old name.now) (F.file folder.new name.now) end)
@@ -156,8 +156,8 @@ pub(crate) fn run_restore<F: Folder>(
         → RanRestore (restore_said restore.entry)
         (record { files = F.file folder.old; left = left; held = held })
         (record { files = F.file folder.new; left = left; held = held }) result }
-    ensures settled { (left held : Option (List ℕ)) → F.tells folder.old ≡ true
-        → Settled (Restore (restore_said restore.entry))
+    ensures ends_clearly { (left held : Option (List ℕ)) → F.tells folder.old ≡ true
+        → EndsClearly (Restore (restore_said restore.entry))
         (record { files = F.file folder.old; left = left; held = held })
         (record { files = F.file folder.new; left = left; held = held })
         ⊎ RoseOf (Restore (restore_said restore.entry)) (F.disk_faults folder.old)

@@ -6,7 +6,7 @@ ghost use Rattle.tk_util.specs.Calls.{Spares};
 ghost use Rattle.tk_util.specs.Interrupted.{InterruptsCommand};
 ghost use Rattle.tk_util.specs.Leaves.{OthersWithin};
 ghost use Rattle.tk_util.specs.Words.{Command, command_of, words_of};
-ghost use Rattle.tk_util.specs.Ran.{Ran, Settled, RoseOf, file_of, writes, IsRunStatus, IsEnd};
+ghost use Rattle.tk_util.specs.Ran.{Ran, EndsClearly, RoseOf, file_of, writes, IsRunStatus, IsEnd};
 
 use crate::file::run_on_file;
 use crate::restore::run_restore;
@@ -36,9 +36,9 @@ pub fn run_util<F: Folder, R: Source, W: Sink>(
         (record { files = F.file folder.old; left = R.left source.old; held = W.held out.old })
         (record { files = F.file folder.new; left = R.left source.new; held = W.held out.new })
         result }
-    ensures settled { (c : Command) → command_of (words_of words.now) ≡ Some c
+    ensures ends_clearly { (c : Command) → command_of (words_of words.now) ≡ Some c
         → F.tells folder.old ≡ true
-        → Settled c
+        → EndsClearly c
         (record { files = F.file folder.old; left = R.left source.old; held = W.held out.old })
         (record { files = F.file folder.new; left = R.left source.new; held = W.held out.old })
         ⊎ RoseOf c (F.disk_faults folder.old) (F.disk_faults folder.new) }

@@ -1,6 +1,6 @@
 ghost use Rattle.std.specs.Prelude.{◌≡◌, ◌≢◌, [], ◌∷◌, ◌≤◌, ◌<◌, ◌^◌, length, MatchOption, IfSome, Some, None};
 ghost use Rattle.tk_util.specs.Words.{command_of, words_of, operands, key_words, set_words, restore_words, is_option, is_hash_name, is_key, is_value};
-ghost use Rattle.tk_util.specs.Asked.{said, key_said, set_said, restore_said, all_of, IsWithin};
+ghost use Rattle.tk_util.specs.Asked.{command_asked, key_said, set_said, restore_said, all_of, IsWithin};
 
 /// A file and a key in it.
 #[derive(Clone, Copy, Debug, PartialEq, Eq)]
@@ -199,7 +199,7 @@ fn restore_operands(operands: Operands<'_>) -> Option<RestoreOperands<'_>>
 pub(crate) fn read_words(words: &[String]) -> Option<Asked<'_>>
     ensures fits { IfSome result IsWithin }
     ensures read { MatchOption result (command_of (words_of words.now) ≡ None) (λ a.
-        command_of (words_of words.now) ≡ Some (said a)) }
+        command_of (words_of words.now) ≡ Some (command_asked a)) }
 {
     let (command, words) = words.split_first()?;
     let operands = operands_of(words)?;

@@ -34,7 +34,7 @@ loop-i-preserved g c =
       here = c.in_ok-put_record.ensures.here;
       end = omega (arith, c.in_ok-put_record.ensures.end, c.loop-i.invariant.end, more);
       behind = omega (arith, c.loop-i.invariant.behind, c.in_ok-put_record.ensures.front);
-      nameless = nameless_joined g.D.Disk.past g.D.Disk.moment g.D.Disk.left_with _ _ _ c.loop-i.invariant.nameless c.put_record.ensures.nameless;
+      no_header = nameless_joined g.D.Disk.past g.D.Disk.moment g.D.Disk.left_with _ _ _ c.loop-i.invariant.no_header c.put_record.ensures.no_header;
       told = c.in_ok-put_record.ensures.told ∙ c.loop-i.invariant.told;
       count = c.in_ok-put_record.ensures.cause.kept ∙ c.loop-i.invariant.count;
     }
@@ -50,5 +50,5 @@ returns-clause-end g c =
     let start = c.args.at.now + length c.args.waiting.now in
     c.loop-i.invariant.end ∙ ap (λ (l : List Body). end_of start l) (taken_all c.args.number c.args.each c.args.pairs.now c.loop-i.i c.loop-i-test.false)
 
-pub returns-in_err-put_record-clause-nameless : goal.returns-in_err-put_record-clause-nameless
-returns-in_err-put_record-clause-nameless g c = nameless_joined g.D.Disk.past g.D.Disk.moment g.D.Disk.left_with _ _ _ c.loop-i.invariant.nameless c.put_record.ensures.nameless
+pub returns-in_err-put_record-clause-no_header : goal.returns-in_err-put_record-clause-no_header
+returns-in_err-put_record-clause-no_header g c = nameless_joined g.D.Disk.past g.D.Disk.moment g.D.Disk.left_with _ _ _ c.loop-i.invariant.no_header c.put_record.ensures.no_header

@@ -14,7 +14,7 @@ invariant-loop-i g l = record {
   here : IfSome (g.D.Disk.image l.disk) (λ f. length f ≡ l.at);
   end : l.at + length l.waiting ≡ end_of (l.initial.at + length l.initial.waiting) (take l.i (fresh_bodies l.number l.each l.pairs));
   behind : l.initial.at ≤ l.at;
-  nameless : WritesNoHeader g.D.Disk.past g.D.Disk.moment g.D.Disk.left_with l.initial.disk l.disk;
+  no_header : WritesNoHeader g.D.Disk.past g.D.Disk.moment g.D.Disk.left_with l.initial.disk l.disk;
   told : is_some (g.D.Disk.image l.disk) ≡ is_some (g.D.Disk.image l.initial.disk);
   count : g.D.Disk.fault_count l.disk ≡ g.D.Disk.fault_count l.initial.disk;
 }

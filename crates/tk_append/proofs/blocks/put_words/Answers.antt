@@ -18,10 +18,10 @@ loop-word-preserved g c =
       here = c.in_ok-flush_piece.ensures.here;
       end = omega (arith, c.in_ok-flush_piece.ensures.end, ap length c.in_ok-extend.ensures.ok, length-append c.loop-word.waiting bytes, eight, c.loop-word.invariant.end);
       behind = omega (arith, c.loop-word.invariant.behind, c.in_ok-flush_piece.ensures.front);
-      nameless = nameless_joined g.D.Disk.past g.D.Disk.moment g.D.Disk.left_with _ _ _ c.loop-word.invariant.nameless c.flush_piece.ensures.nameless;
+      no_header = nameless_joined g.D.Disk.past g.D.Disk.moment g.D.Disk.left_with _ _ _ c.loop-word.invariant.no_header c.flush_piece.ensures.no_header;
       told = c.in_ok-flush_piece.ensures.told ∙ c.loop-word.invariant.told;
       count = c.in_ok-flush_piece.ensures.cause.kept ∙ c.loop-word.invariant.count;
     }
 
-pub returns-in_err-flush_piece-clause-nameless : goal.returns-in_err-flush_piece-clause-nameless
-returns-in_err-flush_piece-clause-nameless g c = nameless_joined g.D.Disk.past g.D.Disk.moment g.D.Disk.left_with _ _ _ c.loop-word.invariant.nameless c.flush_piece.ensures.nameless
+pub returns-in_err-flush_piece-clause-no_header : goal.returns-in_err-flush_piece-clause-no_header
+returns-in_err-flush_piece-clause-no_header g c = nameless_joined g.D.Disk.past g.D.Disk.moment g.D.Disk.left_with _ _ _ c.loop-word.invariant.no_header c.flush_piece.ensures.no_header

@@ -11,7 +11,7 @@ invariant-loop-word g l = record {
   here : IfSome (g.D.Disk.image l.disk) (λ f. length f ≡ l.at);
   end : l.at + length l.waiting ≡ l.initial.at + length l.initial.waiting + 8 * l.word-index;
   behind : l.initial.at ≤ l.at;
-  nameless : WritesNoHeader g.D.Disk.past g.D.Disk.moment g.D.Disk.left_with l.initial.disk l.disk;
+  no_header : WritesNoHeader g.D.Disk.past g.D.Disk.moment g.D.Disk.left_with l.initial.disk l.disk;
   told : is_some (g.D.Disk.image l.disk) ≡ is_some (g.D.Disk.image l.initial.disk);
   count : g.D.Disk.fault_count l.disk ≡ g.D.Disk.fault_count l.initial.disk;
 }

@@ -23,8 +23,8 @@ returns-in_err-write_rest-clause-pasts g c =
     let next = fresh_next c.args.number c.args.pairs.now in
     let start = c.args.disk.now in
     let disk = c.write_rest.new.disk in
-    IfSome_then (image start) c.write_rest.ensures.nameless
-    (λ f nameless. before_header h groups count next (past start) leave past moment left_with g.met.D.Disk.only_with start disk refl nameless)
+    IfSome_then (image start) c.write_rest.ensures.no_header
+    (λ f no_header. before_header h groups count next (past start) leave past moment left_with g.met.D.Disk.only_with start disk refl no_header)
 
 pub returns-in_err-write_at-clause-pasts : goal.returns-in_err-write_at-clause-pasts
 returns-in_err-write_at-clause-pasts g c =
@@ -42,7 +42,7 @@ returns-in_err-write_at-clause-pasts g c =
     let named = c.write_at.new.self in
     let moments = IsFreshMoment h groups (fresh_text h c.args.number c.args.pairs.now) (past start) in
     let both : IfSome (image start) (λ _. (image disk ≡ Some (rest_of h groups count next)) × PastOnly moment left_with start disk (NoNewHeader (past start))) =
-    some_both (image start) _ _ c.in_ok-write_rest.ensures.written c.write_rest.ensures.nameless in
+    some_both (image start) _ _ c.in_ok-write_rest.ensures.written c.write_rest.ensures.no_header in
     IfSome_then (image start) both (λ f there.
     let settled = subst (λ (o : Option (List ℕ)). IfSome o (λ l. past disk ≡ settled_on l)) there.0 c.in_ok-write_rest.ensures.settled in
     let only = subst (λ (o : Option (List ℕ)). IfSome o (λ l. Only l (leave disk))) there.0 c.in_ok-write_rest.ensures.durable in
@@ -66,7 +66,7 @@ returns-clause-pasts g c =
     let named = c.write_at.new.self in
     let moments = IsFreshMoment h groups (fresh_text h c.args.number c.args.pairs.now) (past start) in
     let both : IfSome (image start) (λ _. (image disk ≡ Some (rest_of h groups count next)) × PastOnly moment left_with start disk (NoNewHeader (past start))) =
-    some_both (image start) _ _ c.in_ok-write_rest.ensures.written c.write_rest.ensures.nameless in
+    some_both (image start) _ _ c.in_ok-write_rest.ensures.written c.write_rest.ensures.no_header in
     let end = c.sync.new.self in
     IfSome_then (image start) both (λ f there.
     let settled = subst (λ (o : Option (List ℕ)). IfSome o (λ l. past disk ≡ settled_on l)) there.0 c.in_ok-write_rest.ensures.settled in

@@ -74,26 +74,26 @@ returns-clause-end g c =
     c.in_ok-put_records.ensures.end ∙ ap (λ (n : ℕ). end_of n (fresh_bodies c.args.number c.args.each c.args.pairs.now)) start in
     c.in_ok-flush.ensures.end ∙ end
 
-pub returns-in_err-write_at-clause-nameless : goal.returns-in_err-write_at-clause-nameless
-returns-in_err-write_at-clause-nameless g c =
+pub returns-in_err-write_at-clause-no_header : goal.returns-in_err-write_at-clause-no_header
+returns-in_err-write_at-clause-no_header g c =
     nameless_called g.D.Disk.may_leave g.D.Disk.past g.D.Disk.moment g.D.Disk.left_with g.met.D.Disk.only_with _ _ c.write_at.ensures.pasts (none_zero 0 _ _ _ refl c.write_at.ensures.past)
 
-pub returns-in_err-put_words-clause-nameless : goal.returns-in_err-put_words-clause-nameless
-returns-in_err-put_words-clause-nameless g c =
+pub returns-in_err-put_words-clause-no_header : goal.returns-in_err-put_words-clause-no_header
+returns-in_err-put_words-clause-no_header g c =
     let first = nameless_called g.D.Disk.may_leave g.D.Disk.past g.D.Disk.moment g.D.Disk.left_with g.met.D.Disk.only_with _ _ c.write_at.ensures.pasts (none_zero 0 _ _ _ refl c.write_at.ensures.past) in
-    nameless_joined g.D.Disk.past g.D.Disk.moment g.D.Disk.left_with _ _ _ first c.put_words.ensures.nameless
+    nameless_joined g.D.Disk.past g.D.Disk.moment g.D.Disk.left_with _ _ _ first c.put_words.ensures.no_header
 
-pub returns-in_err-put_records-clause-nameless : goal.returns-in_err-put_records-clause-nameless
-returns-in_err-put_records-clause-nameless g c =
+pub returns-in_err-put_records-clause-no_header : goal.returns-in_err-put_records-clause-no_header
+returns-in_err-put_records-clause-no_header g c =
     let first = nameless_called g.D.Disk.may_leave g.D.Disk.past g.D.Disk.moment g.D.Disk.left_with g.met.D.Disk.only_with _ _ c.write_at.ensures.pasts (none_zero 0 _ _ _ refl c.write_at.ensures.past) in
-    nameless_joined g.D.Disk.past g.D.Disk.moment g.D.Disk.left_with _ _ _ (nameless_joined g.D.Disk.past g.D.Disk.moment g.D.Disk.left_with _ _ _ first c.put_words.ensures.nameless) c.put_records.ensures.nameless
+    nameless_joined g.D.Disk.past g.D.Disk.moment g.D.Disk.left_with _ _ _ (nameless_joined g.D.Disk.past g.D.Disk.moment g.D.Disk.left_with _ _ _ first c.put_words.ensures.no_header) c.put_records.ensures.no_header
 
-pub returns-in_err-flush-clause-nameless : goal.returns-in_err-flush-clause-nameless
-returns-in_err-flush-clause-nameless g c =
+pub returns-in_err-flush-clause-no_header : goal.returns-in_err-flush-clause-no_header
+returns-in_err-flush-clause-no_header g c =
     let first = nameless_called g.D.Disk.may_leave g.D.Disk.past g.D.Disk.moment g.D.Disk.left_with g.met.D.Disk.only_with _ _ c.write_at.ensures.pasts (none_zero 0 _ _ _ refl c.write_at.ensures.past) in
-    nameless_joined g.D.Disk.past g.D.Disk.moment g.D.Disk.left_with _ _ _ (nameless_joined g.D.Disk.past g.D.Disk.moment g.D.Disk.left_with _ _ _ (nameless_joined g.D.Disk.past g.D.Disk.moment g.D.Disk.left_with _ _ _ first c.put_words.ensures.nameless) c.put_records.ensures.nameless) c.flush.ensures.nameless
+    nameless_joined g.D.Disk.past g.D.Disk.moment g.D.Disk.left_with _ _ _ (nameless_joined g.D.Disk.past g.D.Disk.moment g.D.Disk.left_with _ _ _ (nameless_joined g.D.Disk.past g.D.Disk.moment g.D.Disk.left_with _ _ _ first c.put_words.ensures.no_header) c.put_records.ensures.no_header) c.flush.ensures.no_header
 
-pub returns-clause-nameless : goal.returns-clause-nameless
-returns-clause-nameless g c =
+pub returns-clause-no_header : goal.returns-clause-no_header
+returns-clause-no_header g c =
     let first = nameless_called g.D.Disk.may_leave g.D.Disk.past g.D.Disk.moment g.D.Disk.left_with g.met.D.Disk.only_with _ _ c.write_at.ensures.pasts (none_zero 0 _ _ _ refl c.write_at.ensures.past) in
-    nameless_joined g.D.Disk.past g.D.Disk.moment g.D.Disk.left_with _ _ _ (nameless_joined g.D.Disk.past g.D.Disk.moment g.D.Disk.left_with _ _ _ (nameless_joined g.D.Disk.past g.D.Disk.moment g.D.Disk.left_with _ _ _ first c.put_words.ensures.nameless) c.put_records.ensures.nameless) c.flush.ensures.nameless
+    nameless_joined g.D.Disk.past g.D.Disk.moment g.D.Disk.left_with _ _ _ (nameless_joined g.D.Disk.past g.D.Disk.moment g.D.Disk.left_with _ _ _ (nameless_joined g.D.Disk.past g.D.Disk.moment g.D.Disk.left_with _ _ _ first c.put_words.ensures.no_header) c.put_records.ensures.no_header) c.flush.ensures.no_header

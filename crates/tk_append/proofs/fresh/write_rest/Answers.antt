@@ -18,16 +18,16 @@ write_records-requires-clause-end g c =
     subst (λ (l : List Body). end_of (base_of c.args.head.now.p) l ≤ 2 ^ 40)
     (bodies-fresh c.args.head.now.kind c.args.number c.args.pairs.now ∙ ap (λ (l : List Pair). fresh_bodies c.args.number (eqb c.args.head.now.kind 2) l) (sym c.as_slice.ensures)) c.requires.end
 
-pub returns-in_err-write_at-clause-nameless : goal.returns-in_err-write_at-clause-nameless
-returns-in_err-write_at-clause-nameless g c =
-    let closed = nameless_joined g.D.Disk.past g.D.Disk.moment g.D.Disk.left_with c.args.disk.now c.write_records.new.disk c.write_at.new.self c.write_records.ensures.nameless
+pub returns-in_err-write_at-clause-no_header : goal.returns-in_err-write_at-clause-no_header
+returns-in_err-write_at-clause-no_header g c =
+    let closed = nameless_joined g.D.Disk.past g.D.Disk.moment g.D.Disk.left_with c.args.disk.now c.write_records.new.disk c.write_at.new.self c.write_records.ensures.no_header
     (nameless_called g.D.Disk.may_leave g.D.Disk.past g.D.Disk.moment g.D.Disk.left_with g.met.D.Disk.only_with _ _ c.write_at.ensures.pasts (none_behind 32 _ _ _ (omega arith) c.write_at.ensures.past)) in
     IfSome_then (g.D.Disk.image c.args.disk.now) c.requires.empty (λ f empty. closed.each)
 
-pub returns-in_err-sync-clause-nameless : goal.returns-in_err-sync-clause-nameless
-returns-in_err-sync-clause-nameless g c =
+pub returns-in_err-sync-clause-no_header : goal.returns-in_err-sync-clause-no_header
+returns-in_err-sync-clause-no_header g c =
     let image = g.D.Disk.image in
-    let closed = nameless_joined g.D.Disk.past g.D.Disk.moment g.D.Disk.left_with c.args.disk.now c.write_records.new.disk c.write_at.new.self c.write_records.ensures.nameless
+    let closed = nameless_joined g.D.Disk.past g.D.Disk.moment g.D.Disk.left_with c.args.disk.now c.write_records.new.disk c.write_at.new.self c.write_records.ensures.no_header
     (nameless_called g.D.Disk.may_leave g.D.Disk.past g.D.Disk.moment g.D.Disk.left_with g.met.D.Disk.only_with _ _ c.write_at.ensures.pasts (none_behind 32 _ _ _ (omega arith) c.write_at.ensures.past)) in
     let pairs : c.as_slice.result.now ≡ c.args.pairs.now = c.as_slice.ensures in
     let counted : c.len-count.result ≡ length c.args.pairs.now = c.len-count.ensures in
@@ -46,10 +46,10 @@ returns-in_err-sync-clause-nameless g c =
     past_then g.D.Disk.moment g.D.Disk.left_with c.args.disk.now c.write_at.new.self c.sync.new.self (NoNewHeader (g.D.Disk.past c.args.disk.now)) (NoNewHeader (g.D.Disk.past c.write_at.new.self)) closed.each
     (past_held g.D.Disk.may_leave g.D.Disk.moment g.D.Disk.past g.D.Disk.left_with g.met.D.Disk.only_with _ _ _ c.sync.ensures.pasts (λ k known. known) none_more) (λ p more k known. closed.now k (more k known)))
 
-pub returns-clause-nameless : goal.returns-clause-nameless
-returns-clause-nameless g c =
+pub returns-clause-no_header : goal.returns-clause-no_header
+returns-clause-no_header g c =
     let image = g.D.Disk.image in
-    let closed = nameless_joined g.D.Disk.past g.D.Disk.moment g.D.Disk.left_with c.args.disk.now c.write_records.new.disk c.write_at.new.self c.write_records.ensures.nameless
+    let closed = nameless_joined g.D.Disk.past g.D.Disk.moment g.D.Disk.left_with c.args.disk.now c.write_records.new.disk c.write_at.new.self c.write_records.ensures.no_header
     (nameless_called g.D.Disk.may_leave g.D.Disk.past g.D.Disk.moment g.D.Disk.left_with g.met.D.Disk.only_with _ _ c.write_at.ensures.pasts (none_behind 32 _ _ _ (omega arith) c.write_at.ensures.past)) in
     let pairs : c.as_slice.result.now ≡ c.args.pairs.now = c.as_slice.ensures in
     let counted : c.len-count.result ≡ length c.args.pairs.now = c.len-count.ensures in

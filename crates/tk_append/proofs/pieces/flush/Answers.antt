@@ -1,12 +1,12 @@
 use Rattle.tk_append.proofs.Nameless.{none_behind, nameless_called}
 use Rattle.tk_append.proofs.pieces.flush.Goals as goal
 
-pub returns-in_err-write_at-clause-nameless : goal.returns-in_err-write_at-clause-nameless
-returns-in_err-write_at-clause-nameless g c =
+pub returns-in_err-write_at-clause-no_header : goal.returns-in_err-write_at-clause-no_header
+returns-in_err-write_at-clause-no_header g c =
     nameless_called g.D.Disk.may_leave g.D.Disk.past g.D.Disk.moment g.D.Disk.left_with g.met.D.Disk.only_with _ _ c.write_at.ensures.pasts
     (none_behind c.args.at.now _ _ _ c.requires.behind c.write_at.ensures.past)
 
-pub returns-clause-nameless : goal.returns-clause-nameless
-returns-clause-nameless g c =
+pub returns-clause-no_header : goal.returns-clause-no_header
+returns-clause-no_header g c =
     nameless_called g.D.Disk.may_leave g.D.Disk.past g.D.Disk.moment g.D.Disk.left_with g.met.D.Disk.only_with _ _ c.write_at.ensures.pasts
     (none_behind c.args.at.now _ _ _ c.requires.behind c.write_at.ensures.past)

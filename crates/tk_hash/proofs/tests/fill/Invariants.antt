@@ -6,7 +6,7 @@ use Rattle.tk_hash.proofs.tests.fill.Given as goal
 abbrev pub invariant-loop-i : goal.invariant-loop-i
 invariant-loop-i g l = record {
   whole : IsWhole g.S.SeqStore.stands l.store;
-  opened : (g.S.SeqStore.shown l.store).closed ≡ false;
-  writable : (g.S.SeqStore.nature l.store).writable ≡ true;
-  floor : (g.S.SeqStore.shown l.store).floor ≤ l.i;
+  opened : (g.S.SeqStore.store_view l.store).closed ≡ false;
+  writable : (g.S.SeqStore.constants l.store).writable ≡ true;
+  floor : (g.S.SeqStore.store_view l.store).floor ≤ l.i;
 }

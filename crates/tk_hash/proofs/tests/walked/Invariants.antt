@@ -6,6 +6,6 @@ use Rattle.tk_hash.proofs.tests.walked.Given as goal
 abbrev pub invariant-loop-step : goal.invariant-loop-step
 invariant-loop-step g l = record {
   whole : IsWhole g.S.SeqStore.stands l.store;
-  shown : g.S.SeqStore.shown l.store ≡ g.S.SeqStore.shown l.initial.store;
-  nature : g.S.SeqStore.nature l.store ≡ g.S.SeqStore.nature l.initial.store;
+  store_view : g.S.SeqStore.store_view l.store ≡ g.S.SeqStore.store_view l.initial.store;
+  constants : g.S.SeqStore.constants l.store ≡ g.S.SeqStore.constants l.initial.store;
 }

@@ -10,19 +10,19 @@ use Rattle.tk_util.proofs.call.call_on.Goals as goal
 pub returns-in_ok-end_call-in-Ok-clause-made : goal.returns-in_ok-end_call-in-Ok-clause-made
 returns-in_ok-end_call-in-Ok-clause-made g c = λ groups stands.
     made_on g.D.Disk.image g.D.Disk.may_leave g.D.Disk.past g.P.RecordProcessor.acts g.P.RecordProcessor.turns c.args.store.now c.run_on.new.store c.end_call.new.store _ _ _ groups c.next_number-next.result c.saturating_add.result _ stands
-    (said_of _ _ _ _ _ _ c.in-Ok.ensures.status c.in-Ok.ensures.turned c.in-Ok.ensures.full c.in-Ok.ensures.map c.in-Ok.ensures.stands) c.run_on.ensures.nature c.next_number-next.ensures c.requires.limit (λ writable. one_more _ _ _ c.next_number-next.ensures (c.requires.low writable) c.saturating_add.ensures)
+    (said_of _ _ _ _ _ _ c.in-Ok.ensures.status c.in-Ok.ensures.turned c.in-Ok.ensures.full c.in-Ok.ensures.map c.in-Ok.ensures.stands) c.run_on.ensures.constants c.next_number-next.ensures c.requires.limit (λ writable. one_more _ _ _ c.next_number-next.ensures (c.requires.low writable) c.saturating_add.ensures)
     (λ since st. c.in_ok-end_call-in-Ok.ensures.file groups since 0 st)
 
 pub returns-in_ok-end_call-in-Err-Full-clause-no_room : goal.returns-in_ok-end_call-in-Err-Full-clause-no_room
 returns-in_ok-end_call-in-Err-Full-clause-no_room g c = λ groups stands.
     IfSome_then (g.D.Disk.image (hash_disk c.args.store.now)) (no_room_on g.D.Disk.image g.D.Disk.may_leave g.D.Disk.past g.P.RecordProcessor.acts c.args.store.now c.end_call-in-Err-Full.new.store _ _ groups c.in-Err-Full.field-0 _ _ _ c.in-Err-Full.field-0-is stands c.requires.limit c.in-Err-Full.ensures.full
-    (kept_on g.D.Disk.image c.args.store.now c.run_on.new.store c.end_call-in-Err-Full.new.store groups c.next_number-next.result _ c.run_on.ensures.nature c.next_number-next.ensures ((full_tells Status _ c.in-Err-Full.field-0 _ _ _ c.in-Err-Full.field-0-is c.in-Err-Full.ensures.refused).2).map
+    (kept_on g.D.Disk.image c.args.store.now c.run_on.new.store c.end_call-in-Err-Full.new.store groups c.next_number-next.result _ c.run_on.ensures.constants c.next_number-next.ensures ((full_tells Status _ c.in-Err-Full.field-0 _ _ _ c.in-Err-Full.field-0-is c.in-Err-Full.ensures.refused).2).map
     (c.in_ok-end_call-in-Err-Full.ensures.file groups [] 0 ((full_tells Status _ c.in-Err-Full.field-0 _ _ _ c.in-Err-Full.field-0-is c.in-Err-Full.ensures.refused).0 (opening groups) [] 0 stands))
     (λ after. after))) (λ f room same. room)
 
 pub returns-in_ok-end_call-in-Err-NoMemory-clause-no_memory : goal.returns-in_ok-end_call-in-Err-NoMemory-clause-no_memory
 returns-in_ok-end_call-in-Err-NoMemory-clause-no_memory g c = λ groups stands.
-    kept_on g.D.Disk.image c.args.store.now c.run_on.new.store c.end_call-in-Err-NoMemory.new.store groups c.next_number-next.result _ c.run_on.ensures.nature c.next_number-next.ensures ((memory_tells Status _ c.in-Err-NoMemory.field-0 c.in-Err-NoMemory.field-0-is c.in-Err-NoMemory.ensures.refused).2).map
+    kept_on g.D.Disk.image c.args.store.now c.run_on.new.store c.end_call-in-Err-NoMemory.new.store groups c.next_number-next.result _ c.run_on.ensures.constants c.next_number-next.ensures ((memory_tells Status _ c.in-Err-NoMemory.field-0 c.in-Err-NoMemory.field-0-is c.in-Err-NoMemory.ensures.refused).2).map
     (c.in_ok-end_call-in-Err-NoMemory.ensures.file groups [] 0 ((memory_tells Status _ c.in-Err-NoMemory.field-0 c.in-Err-NoMemory.field-0-is c.in-Err-NoMemory.ensures.refused).0 (opening groups) [] 0 stands))
     (λ after same. after)
 

@@ -21,7 +21,7 @@ returns-clause-no_room g c =
 pub returns-clause-spared : goal.returns-clause-spared
 returns-clause-spared g c = λ may.
     spared_at g.D.Disk.image g.D.Disk.may_leave g.D.Disk.past g.D.Disk.moment g.D.Disk.left_since g.D.Disk.left_with g.met.D.Disk.counts_now (g.D.Disk.image c.args.disk) c.in-Ok.store c.call_on-answer.new.store c.into_disk.result (g.D.Disk.may_leave c.args.disk)
-    c.in-Ok.ensures.opened (c.in-Ok.ensures.mode.0 ∙ may) c.in-Ok.ensures.told c.into_disk.ensures c.call_on-answer.ensures.told c.call_on-answer.ensures.nature c.call_on-answer.ensures.time
+    c.in-Ok.ensures.opened (c.in-Ok.ensures.mode.0 ∙ may) c.in-Ok.ensures.told c.into_disk.ensures c.call_on-answer.ensures.told c.call_on-answer.ensures.constants c.call_on-answer.ensures.time
     (call_changes g.P.RecordProcessor.acts c.args.p.now c.args.key.now) c.call_on-answer.ensures.safe
 
 pub returns-in-Err-clause-spared : goal.returns-in-Err-clause-spared
@@ -56,7 +56,7 @@ returns-clause-no_memory g c =
 pub returns-clause-crashes : goal.returns-clause-crashes
 returns-clause-crashes g c = λ may.
     interrupted_at g.D.Disk.image g.D.Disk.may_leave g.D.Disk.past g.D.Disk.moment g.D.Disk.left_since g.D.Disk.left_with (g.D.Disk.image c.args.disk) c.args.disk c.in-Ok.store c.call_on-answer.new.store c.into_disk.result c.args.writable
-    (call_changes g.P.RecordProcessor.acts c.args.p.now c.args.key.now) c.in-Ok.ensures.exact c.in-Ok.ensures.opened c.in-Ok.ensures.mode.0 may c.in-Ok.ensures.told c.into_disk.ensures c.call_on-answer.ensures.told c.call_on-answer.ensures.nature
+    (call_changes g.P.RecordProcessor.acts c.args.p.now c.args.key.now) c.in-Ok.ensures.exact c.in-Ok.ensures.opened c.in-Ok.ensures.mode.0 may c.in-Ok.ensures.told c.into_disk.ensures c.call_on-answer.ensures.told c.call_on-answer.ensures.constants
     c.in-Ok.ensures.time.later c.call_on-answer.ensures.time c.call_on-answer.ensures.safe
 
 pub returns-in-Err-clause-crashes : goal.returns-in-Err-clause-crashes

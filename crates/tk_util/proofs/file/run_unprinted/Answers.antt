@@ -35,8 +35,8 @@ returns-in-Err-clause-ran g c = λ left held tells.
     (record { others = subst (λ (n : List ℕ). SameBut n (g.F.Folder.file c.args.folder.now) (g.F.Folder.file c.take_disk.new.folder)) c.file.ensures c.take_disk.ensures.others; left = refl; held = refl })
     c.in-Err.stop c.end_of.result (why g c) c.end_of.ensures
 
-pub returns-in-Err-clause-settled : goal.returns-in-Err-clause-settled
-returns-in-Err-clause-settled g c = λ left held tells.
+pub returns-in-Err-clause-ends_clearly : goal.returns-in-Err-clause-ends_clearly
+returns-in-Err-clause-ends_clearly g c = λ left held tells.
     inl (not_taken_settled (world (g.F.Folder.file c.args.folder.now) left held) (world (g.F.Folder.file c.take_disk.new.folder) left held) c.args.command (g.F.Folder.tells c.args.folder.now) c.args.getter.now tells c.requires.unread
     (subst (λ (n : List ℕ). g.F.Folder.file c.take_disk.new.folder n ≡ g.F.Folder.file c.args.folder.now n) c.file.ensures c.in-Err.ensures.same)
     (record { others = subst (λ (n : List ℕ). SameBut n (g.F.Folder.file c.args.folder.now) (g.F.Folder.file c.take_disk.new.folder)) c.file.ensures c.take_disk.ensures.others; left = refl; held = refl })
@@ -78,8 +78,8 @@ given_back g c =
 pub returns-clause-ran : goal.returns-clause-ran
 returns-clause-ran g c = λ left held tells. made g c left held tells c.give-given.result c.end_of-2.result c.end_of-2.ensures
 
-pub returns-clause-settled : goal.returns-clause-settled
-returns-clause-settled g c = λ left held tells.
+pub returns-clause-ends_clearly : goal.returns-clause-ends_clearly
+returns-clause-ends_clearly g c = λ left held tells.
     no_fault (IsClearEnd (file_said c.args.command)) (clear_end c.args.command) c.counted-answer.result
     (λ e. rose_of c.args.command _ _ (rose_moved _ _ _ _ (subst (λ (n : List ℕ). g.F.D.Disk.fault_count c.in-Ok.disk ≡ g.F.Folder.disk_faults c.args.folder.now n) c.file.ensures c.in-Ok.ensures.count)
     (subst (λ (n : List ℕ). g.F.Folder.disk_faults c.give-given.new.self n ≡ g.F.D.Disk.fault_count c.call_command-disk.result.disk) c.file-2.ensures c.give-given.ensures.count)

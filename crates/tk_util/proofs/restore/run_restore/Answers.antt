@@ -4,15 +4,15 @@ use Rattle.tk_util.proofs.OnFolder.{leaves_after}
 use Rattle.tk_util.proofs.Restoring.{restored_settled, unread_settled, only_to, settled_at}
 use Rattle.tk_util.proofs.restore.run_restore.Goals as goal
 
-pub returns-in-Err-clause-settled : goal.returns-in-Err-clause-settled
-returns-in-Err-clause-settled g c = λ left held tells.
+pub returns-in-Err-clause-ends_clearly : goal.returns-in-Err-clause-ends_clearly
+returns-in-Err-clause-ends_clearly g c = λ left held tells.
     unread_settled _ _ _ (record { others = λ m ne. c.read_from.ensures.files tells m; left = refl; held = refl }) (c.read_from.ensures.files tells _)
 
-pub returns-in-Ok-clause-settled : goal.returns-in-Ok-clause-settled
-returns-in-Ok-clause-settled g c = λ left held tells.
+pub returns-in-Ok-clause-ends_clearly : goal.returns-in-Ok-clause-ends_clearly
+returns-in-Ok-clause-ends_clearly g c = λ left held tells.
     restored_settled _ _ _ (record { others = only_to _ (g.F.Folder.file c.read_from.new.folder) _ _ (c.read_from.ensures.files tells) c.write_to.ensures.others; left = refl; held = refl })
     (c.in-Ok.ensures.read tells).1
-    (settled_at _ _ _ _ (c.read_from.ensures.files tells _) (c.write_to.ensures.settled (c.read_from.ensures.tells ∙ tells) _ (c.in-Ok.ensures.read tells).0))
+    (settled_at _ _ _ _ (c.read_from.ensures.files tells _) (c.write_to.ensures.ends_clearly (c.read_from.ensures.tells ∙ tells) _ (c.in-Ok.ensures.read tells).0))
     (λ rose. inr (subst (λ (k : ℕ). Rose k (g.F.Folder.disk_faults c.write_to.new.folder c.args.restore.to.now)) (c.in-Ok.ensures.disks_met _) rose))
 
 pub returns-in-Ok-clause-crash : goal.returns-in-Ok-clause-crash

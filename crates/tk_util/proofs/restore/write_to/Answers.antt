@@ -7,8 +7,8 @@ use Rattle.tk_util.proofs.Restoring.{nothing_settled, wrote_settled, wrote_by, c
 use Rattle.tk_util.proofs.restore.write_to.Given as Given
 use Rattle.tk_util.proofs.restore.write_to.Goals as goal
 
-pub returns-in-Err-clause-settled : goal.returns-in-Err-clause-settled
-returns-in-Err-clause-settled g c = λ tells image from. nothing_settled image _ _ c.in-Err.ensures.same
+pub returns-in-Err-clause-ends_clearly : goal.returns-in-Err-clause-ends_clearly
+returns-in-Err-clause-ends_clearly g c = λ tells image from. nothing_settled image _ _ c.in-Err.ensures.same
 
 pub returns-in-Ok-given-clause-crash : goal.returns-in-Ok-given-clause-crash
 returns-in-Ok-given-clause-crash g c =
@@ -18,14 +18,14 @@ returns-in-Ok-given-clause-crash g c =
     (not_status _ (ended 0) 3 c.with.ensures (λ h. cc h), not_status _ (ended 0) 7 c.with.ensures (λ h. cc h))
     (λ either. counted_true _ _ c.write_new-written.result c.counted-written.result c.counted-written.ensures.answer c.in-Ok-true.is c.in-Ok-true.field-0-test c.write_new-written.ensures.durable)
 
-pub returns-in-Err-given-clause-settled : goal.returns-in-Err-given-clause-settled
-returns-in-Err-given-clause-settled g c = λ tells image from.
+pub returns-in-Err-given-clause-ends_clearly : goal.returns-in-Err-given-clause-ends_clearly
+returns-in-Err-given-clause-ends_clearly g c = λ tells image from.
     wrote_settled image _ _ (g.F.D.Disk.image c.write_new-written.new.to) (c.give-given.ensures.here (c.take_disk.ensures.tells ∙ tells)) (g.F.D.Disk.image c.in-Ok.disk) _ c.write_new-written.result c.counted-written.result (c.in-Ok.ensures.image tells)
     (c.write_new-written.ensures.written image from) c.counted-written.ensures.answer
     (λ e. rose_moved _ _ _ _ c.in-Ok.ensures.count c.give-given.ensures.count (subst (λ (k : ℕ). Rose k (g.F.D.Disk.fault_count c.write_new-written.new.to)) c.faults-faults.ensures (subst (λ (k : ℕ). Rose c.faults-faults.result k) c.faults.ensures (fault_counted _ _ c.counted-written.result c.counted-written.ensures.counts e))))
 
-pub returns-in-Err-written-clause-settled : goal.returns-in-Err-written-clause-settled
-returns-in-Err-written-clause-settled g c = λ tells image from.
+pub returns-in-Err-written-clause-ends_clearly : goal.returns-in-Err-written-clause-ends_clearly
+returns-in-Err-written-clause-ends_clearly g c = λ tells image from.
     wrote_settled image _ _ (g.F.D.Disk.image c.write_new-written.new.to) (c.give-given.ensures.here (c.take_disk.ensures.tells ∙ tells)) (g.F.D.Disk.image c.in-Ok.disk) _ c.write_new-written.result c.counted-written.result (c.in-Ok.ensures.image tells)
     (c.write_new-written.ensures.written image from) c.counted-written.ensures.answer
     (λ e. rose_moved _ _ _ _ c.in-Ok.ensures.count c.give-given.ensures.count (subst (λ (k : ℕ). Rose k (g.F.D.Disk.fault_count c.write_new-written.new.to)) c.faults-faults.ensures (subst (λ (k : ℕ). Rose c.faults-faults.result k) c.faults.ensures (fault_counted _ _ c.counted-written.result c.counted-written.ensures.counts e))))
@@ -34,14 +34,14 @@ returns-in-Err-written-clause-settled g c = λ tells image from.
 other : (g : Given.Over) (c : goal.After-end_of-in-Err-written g) (k : ℕ) → k ≢ 4 → k ≢ 5 → c.end_of-in-Err-written.result.status ≡ k → ⊥
 other g c = write_stopped _ c.write_new-written.result c.counted-written.result c.in-Err-written.stop c.give-given.result _ c.write_new-written.ensures.stops c.counted-written.ensures.answer c.in-Err-written.is c.end_of-in-Err-written.ensures
 
-pub returns-in-Ok-given-clause-settled : goal.returns-in-Ok-given-clause-settled
-returns-in-Ok-given-clause-settled g c = λ tells image from.
+pub returns-in-Ok-given-clause-ends_clearly : goal.returns-in-Ok-given-clause-ends_clearly
+returns-in-Ok-given-clause-ends_clearly g c = λ tells image from.
     wrote_settled image _ _ (g.F.D.Disk.image c.write_new-written.new.to) (c.give-given.ensures.here (c.take_disk.ensures.tells ∙ tells)) (g.F.D.Disk.image c.in-Ok.disk) _ c.write_new-written.result c.counted-written.result (c.in-Ok.ensures.image tells)
     (c.write_new-written.ensures.written image from) c.counted-written.ensures.answer
     (λ e. rose_moved _ _ _ _ c.in-Ok.ensures.count c.give-given.ensures.count (subst (λ (k : ℕ). Rose k (g.F.D.Disk.fault_count c.write_new-written.new.to)) c.faults-faults.ensures (subst (λ (k : ℕ). Rose c.faults-faults.result k) c.faults.ensures (fault_counted _ _ c.counted-written.result c.counted-written.ensures.counts e))))
 
-pub returns-in-Ok-false-clause-settled : goal.returns-in-Ok-false-clause-settled
-returns-in-Ok-false-clause-settled g c = λ tells image from.
+pub returns-in-Ok-false-clause-ends_clearly : goal.returns-in-Ok-false-clause-ends_clearly
+returns-in-Ok-false-clause-ends_clearly g c = λ tells image from.
     wrote_settled image _ _ (g.F.D.Disk.image c.write_new-written.new.to) (c.give-given.ensures.here (c.take_disk.ensures.tells ∙ tells)) (g.F.D.Disk.image c.in-Ok.disk) _ c.write_new-written.result c.counted-written.result (c.in-Ok.ensures.image tells)
     (c.write_new-written.ensures.written image from) c.counted-written.ensures.answer
     (λ e. rose_moved _ _ _ _ c.in-Ok.ensures.count c.give-given.ensures.count (subst (λ (k : ℕ). Rose k (g.F.D.Disk.fault_count c.write_new-written.new.to)) c.faults-faults.ensures (subst (λ (k : ℕ). Rose c.faults-faults.result k) c.faults.ensures (fault_counted _ _ c.counted-written.result c.counted-written.ensures.counts e))))

@@ -2,7 +2,7 @@ use Rattle.std.proofs.Common.{◌∙◌, ◌≤◌, ◌++◌, List, [], length, 
 use Rattle.std.specs.Prelude.{None}
 use Rattle.std.proofs.lemmas.List.{append-nil}
 use Rattle.tk_model.specs.declared.record.Group.{Group}
-use Rattle.tk_store.specs.Store.{Nature}
+use Rattle.tk_store.specs.Store.{StoreConstants}
 use Rattle.tk_append.specs.Log.{closed_text}
 use Rattle.tk_append.specs.LogParts.{log_disk, log_head}
 use Rattle.tk_hash.specs.Hash.{HashStands, opening}
@@ -13,13 +13,13 @@ use Rattle.tk_hash.proofs.store.HashStoreSeqStore.close.Goals as goal
 
 pub returns-in_err-end_file-clause-safe : goal.returns-in_err-end_file-clause-safe
 returns-in_err-end_file-clause-safe g c t n first since hard st =
-    safe_kept g.D.Disk.image g.D.Disk.may_leave g.D.Disk.past g.D.Disk.moment g.D.Disk.left_since g.D.Disk.left_with g.met.D.Disk.since_with c.args.self.now c.end_file.new.self t n first since hard st c.end_file.ensures.head (ap (λ (k : Nature). k.writable) c.end_file.ensures.nature) c.end_file.ensures.told
+    safe_kept g.D.Disk.image g.D.Disk.may_leave g.D.Disk.past g.D.Disk.moment g.D.Disk.left_since g.D.Disk.left_with g.met.D.Disk.since_with c.args.self.now c.end_file.new.self t n first since hard st c.end_file.ensures.head (ap (λ (k : StoreConstants). k.writable) c.end_file.ensures.constants) c.end_file.ensures.told
     (c.end_file.ensures.kept first since hard (restaged g.D.Disk.image g.D.Disk.may_leave g.D.Disk.past c.args.self.now first since hard st.stands None true (λ (no : true ≡ false). absurd cc)))
     (λ may. c.end_file.ensures.fair first since hard (restaged g.D.Disk.image g.D.Disk.may_leave g.D.Disk.past c.args.self.now first since hard st.stands None true (λ (no : true ≡ false). absurd cc)))
 
 pub returns-in_ok-end_file-clause-safe : goal.returns-in_ok-end_file-clause-safe
 returns-in_ok-end_file-clause-safe g c t n first since hard st =
-    safe_kept g.D.Disk.image g.D.Disk.may_leave g.D.Disk.past g.D.Disk.moment g.D.Disk.left_since g.D.Disk.left_with g.met.D.Disk.since_with c.args.self.now c.end_file.new.self t n first since hard st c.end_file.ensures.head (ap (λ (k : Nature). k.writable) c.end_file.ensures.nature) c.end_file.ensures.told
+    safe_kept g.D.Disk.image g.D.Disk.may_leave g.D.Disk.past g.D.Disk.moment g.D.Disk.left_since g.D.Disk.left_with g.met.D.Disk.since_with c.args.self.now c.end_file.new.self t n first since hard st c.end_file.ensures.head (ap (λ (k : StoreConstants). k.writable) c.end_file.ensures.constants) c.end_file.ensures.told
     (c.end_file.ensures.kept first since hard (restaged g.D.Disk.image g.D.Disk.may_leave g.D.Disk.past c.args.self.now first since hard st.stands None true (λ (no : true ≡ false). absurd cc)))
     (λ may. c.end_file.ensures.fair first since hard (restaged g.D.Disk.image g.D.Disk.may_leave g.D.Disk.past c.args.self.now first since hard st.stands None true (λ (no : true ≡ false). absurd cc)))
 
@@ -39,7 +39,7 @@ returns-in_ok-end_file-clause-since g c t n first since hard st =
     let same = append-nil since in
     let within : hard ≤ length (since ++ []) = omega (arith, st.stands.synced, ap length same) in
     stood_as g.D.Disk.image g.D.Disk.may_leave g.D.Disk.past g.D.Disk.moment g.D.Disk.left_since g.D.Disk.left_with g.met.D.Disk.since_with c.args.self.now c.end_file.new.self t n first since [] hard (length (since ++ [])) st (returns-in_ok-end_file-clause-stands g c first since hard st.stands) within
-    c.end_file.ensures.head (ap (λ (k : Nature). k.writable) c.end_file.ensures.nature) c.end_file.ensures.told
+    c.end_file.ensures.head (ap (λ (k : StoreConstants). k.writable) c.end_file.ensures.constants) c.end_file.ensures.told
     (c.end_file.ensures.kept first since hard (restaged g.D.Disk.image g.D.Disk.may_leave g.D.Disk.past c.args.self.now first since hard st.stands None true (λ (no : true ≡ false). absurd cc)))
     (λ may. c.end_file.ensures.fair first since hard (restaged g.D.Disk.image g.D.Disk.may_leave g.D.Disk.past c.args.self.now first since hard st.stands None true (λ (no : true ≡ false). absurd cc)))
 
@@ -59,4 +59,4 @@ pub returns-in_err-end_file-clause-unended : goal.returns-in_err-end_file-clause
 returns-in_err-end_file-clause-unended g c =
     let t = c.end_file.new.self in
     on_err c.from_residual.result (open_unended t.closed t.writable t.closing
-    (λ may. c.in_err-end_file.ensures.unended ∙ c.requires.whole.3.mark (sym (ap (λ (k : Nature). k.writable) c.end_file.ensures.nature) ∙ may) c.requires.«open»))
+    (λ may. c.in_err-end_file.ensures.unended ∙ c.requires.whole.3.mark (sym (ap (λ (k : StoreConstants). k.writable) c.end_file.ensures.constants) ∙ may) c.requires.«open»))

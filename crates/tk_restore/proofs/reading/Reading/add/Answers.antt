@@ -4,7 +4,7 @@ use Rattle.tk_model.specs.declared.record.Change.{Change}
 use Rattle.tk_model.specs.declared.record.Pair.{Pair}
 use Rattle.tk_model.specs.Records.{after_one, after}
 use Rattle.tk_append.specs.Fresh.{AllPairsSmall}
-use Rattle.tk_block.specs.Blocks.{AllSmall, said}
+use Rattle.tk_block.specs.Blocks.{AllSmall, body_said}
 use Rattle.tk_restore.proofs.Held.{one_small, after_small, one_more_small}
 use Rattle.tk_restore.proofs.Knowing.{knows_ended, knows_first, knows_on, change_small}
 use Rattle.tk_restore.proofs.reading.Reading.add.Goals as goal
@@ -25,7 +25,7 @@ returns-then-block-clause-held c =
     record {
       records =
           subst AllPairsSmall (sym (c.in_ok-apply.ensures))
-          (one_small c.in_ok-change.change c.make_all.new.records (change_small (said c.args.block) c.in_ok-change.change c.in_ok-change.ensures c.requires.small) made);
+          (one_small c.in_ok-change.change c.make_all.new.records (change_small (body_said c.args.block) c.in_ok-change.change c.in_ok-change.ensures c.requires.small) made);
       begun = subst AllSmall (sym (c.replace-changes.ensures.after ∙ c.new.ensures)) tt;
     }
 
@@ -40,11 +40,11 @@ returns-else-is_none-clause-knows c w knows =
 pub returns-then-is_none-clause-held : goal.returns-then-is_none-clause-held
 returns-then-is_none-clause-held c = record {
   records = c.requires.held.records;
-  begun = subst AllSmall (sym c.in_ok-push.ensures.ok) (one_more_small _ _ c.requires.held.begun (change_small (said c.args.block) _ c.in_ok-change.ensures c.requires.small));
+  begun = subst AllSmall (sym c.in_ok-push.ensures.ok) (one_more_small _ _ c.requires.held.begun (change_small (body_said c.args.block) _ c.in_ok-change.ensures c.requires.small));
 }
 
 pub returns-else-is_none-clause-held : goal.returns-else-is_none-clause-held
 returns-else-is_none-clause-held c = record {
   records = c.requires.held.records;
-  begun = subst AllSmall (sym c.in_ok-push.ensures.ok) (one_more_small _ _ c.requires.held.begun (change_small (said c.args.block) _ c.in_ok-change.ensures c.requires.small));
+  begun = subst AllSmall (sym c.in_ok-push.ensures.ok) (one_more_small _ _ c.requires.held.begun (change_small (body_said c.args.block) _ c.in_ok-change.ensures c.requires.small));
 }

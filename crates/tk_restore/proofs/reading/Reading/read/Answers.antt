@@ -1,5 +1,5 @@
 use Rattle.std.proofs.Common.{sym, ◌∙◌}
-use Rattle.tk_block.specs.Blocks.{said}
+use Rattle.tk_block.specs.Blocks.{body_said}
 use Rattle.tk_append.proofs.Rereading.{behind_link, value_small}
 use Rattle.tk_restore.proofs.Knowing.{short_not, none_not, other_not}
 use Rattle.tk_restore.proofs.reading.Reading.read.Goals as goal
@@ -13,24 +13,24 @@ returns-in_default-clause-read c w knows =
 
 pub may_read-requires : goal.may_read-requires
 may_read-requires c =
-    let fits = (c.in-Some.ensures.exact.found _ (said c.in-Some.block) (sym c.in-Some.ensures.value)).0 in
-    record { key_fits = fits.1; value_fits = value_small (said c.in-Some.block) fits.0 }
+    let fits = (c.in-Some.ensures.exact.found _ (body_said c.in-Some.block) (sym c.in-Some.ensures.value)).0 in
+    record { key_fits = fits.1; value_fits = value_small (body_said c.in-Some.block) fits.0 }
 
 pub returns-then-not-may_read-clause-read : goal.returns-then-not-may_read-clause-read
 returns-then-not-may_read-clause-read c w knows = (
-  other_not w c.args.place c.args.extent c.args.bytes.now (said c.in-Some.block) (behind_link c.args.place c.args.bytes.now _ (sym c.in-Some.ensures.value))
+  other_not w c.args.place c.args.extent c.args.bytes.now (body_said c.in-Some.block) (behind_link c.args.place c.args.bytes.now _ (sym c.in-Some.ensures.value))
       (sym (c.may_read.ensures w knows) ∙ c.if-not-may_read.true),
   knows,
 )
 
 pub add-requires-clause-small : goal.add-requires-clause-small
 add-requires-clause-small c =
-    let fits = (c.in-Some.ensures.exact.found _ (said c.in-Some.block) (sym c.in-Some.ensures.value)).0 in
-    record { key_fits = fits.1; value_fits = value_small (said c.in-Some.block) fits.0 }
+    let fits = (c.in-Some.ensures.exact.found _ (body_said c.in-Some.block) (sym c.in-Some.ensures.value)).0 in
+    record { key_fits = fits.1; value_fits = value_small (body_said c.in-Some.block) fits.0 }
 
 pub returns-clause-read : goal.returns-clause-read
 returns-clause-read c w knows = record {
-  body = said c.in-Some.block;
+  body = body_said c.in-Some.block;
   there = behind_link c.args.place c.args.bytes.now _ (sym c.in-Some.ensures.value);
   may = sym (c.may_read.ensures w knows) ∙ c.if-not-may_read.false;
   knows = c.in_ok-add.ensures.knows w knows;

@@ -13,7 +13,7 @@ use Rattle.tk_hash.specs.Plan.{with_heads, FitHeads}
 use Rattle.tk_hash.proofs.Extents.{ends_sum}
 use Rattle.tk_hash.proofs.HashKeeps.{same_read, shelf_same, still_at, still_on, read_on, stood_on, heads_at, key_at, length-lent}
 use Rattle.tk_hash.proofs.HashGrows.{planned}
-use Rattle.tk_hash.proofs.store.HashStore.stage.Goals as goal
+use Rattle.tk_hash.proofs.store.HashStore.reserve_changes.Goals as goal
 
 pub plan_changes-requires-clause-end : goal.plan_changes-requires-clause-end
 plan_changes-requires-clause-end g c = rw c.end-end.ensures (omega (arith, ends_sum 0 (log_end c.args.self.now.log) c.args.changes.now, c.requires.end))
@@ -24,8 +24,8 @@ plan_changes-requires-clause-heads g c = heads_at g.D.Disk.image g.D.Disk.may_le
 pub plan_changes-requires-clause-found : goal.plan_changes-requires-clause-found
 plan_changes-requires-clause-found g c = key_at g.D.Disk.image g.D.Disk.may_leave g.D.Disk.past c.args.self.now c.disk.result.now c.head.result.now c.requires.whole c.disk.ensures.value c.head.ensures
 
-pub prepare-requires-clause-end : goal.prepare-requires-clause-end
-prepare-requires-clause-end g c = omega (arith, ends_sum 0 (log_end c.args.self.now.log) c.args.changes.now, c.requires.end)
+pub reserve_text-requires-clause-end : goal.reserve_text-requires-clause-end
+reserve_text-requires-clause-end g c = omega (arith, ends_sum 0 (log_end c.args.self.now.log) c.args.changes.now, c.requires.end)
 
 pub returns-in_err-plan-clause-stands : goal.returns-in_err-plan-clause-stands
 returns-in_err-plan-clause-stands g c first since hard st =
@@ -41,35 +41,35 @@ returns-in_err-plan-clause-since g c t n first since hard st =
     (shelf_same g.D.Disk.image c.args.self.now)
     (still_at g.D.Disk.image g.D.Disk.may_leave g.D.Disk.past g.D.Disk.moment g.D.Disk.left_since g.D.Disk.left_with _ _ _ c.disk.ensures.value c.plan_changes.ensures.still) st
 
-pub returns-in_err-prepare-clause-stands : goal.returns-in_err-prepare-clause-stands
-returns-in_err-prepare-clause-stands g c first since hard st =
+pub returns-in_err-reserve_text-clause-stands : goal.returns-in_err-reserve_text-clause-stands
+returns-in_err-reserve_text-clause-stands g c first since hard st =
     read_on g.D.Disk.image g.D.Disk.may_leave g.D.Disk.past g.D.Disk.moment g.D.Disk.left_since g.D.Disk.left_with c.args.self.now _ first since hard
-    (same_read g.D.Disk.image c.args.self.now _ c.disk.result.now c.disk.ensures.value (λ unclosed. unclosed) c.prepare.ensures.head c.prepare.ensures.end refl refl refl refl refl refl (λ known. known) (length-lent c.args.self.now.buffer c.plan_changes.new.buffer) (ap g.D.Disk.image c.prepare.ensures.disk ∙ c.plan_changes.ensures.image))
-    (shelf_same g.D.Disk.image c.args.self.now) (still_on g.D.Disk.image g.D.Disk.may_leave g.D.Disk.past g.D.Disk.moment g.D.Disk.left_since g.D.Disk.left_with _ _ _ _ c.disk.ensures.value c.prepare.ensures.disk c.plan_changes.ensures.still) st
+    (same_read g.D.Disk.image c.args.self.now _ c.disk.result.now c.disk.ensures.value (λ unclosed. unclosed) c.reserve_text.ensures.head c.reserve_text.ensures.end refl refl refl refl refl refl (λ known. known) (length-lent c.args.self.now.buffer c.plan_changes.new.buffer) (ap g.D.Disk.image c.reserve_text.ensures.disk ∙ c.plan_changes.ensures.image))
+    (shelf_same g.D.Disk.image c.args.self.now) (still_on g.D.Disk.image g.D.Disk.may_leave g.D.Disk.past g.D.Disk.moment g.D.Disk.left_since g.D.Disk.left_with _ _ _ _ c.disk.ensures.value c.reserve_text.ensures.disk c.plan_changes.ensures.still) st
 
-pub returns-in_err-prepare-clause-since : goal.returns-in_err-prepare-clause-since
-returns-in_err-prepare-clause-since g c t n first since hard st =
+pub returns-in_err-reserve_text-clause-since : goal.returns-in_err-reserve_text-clause-since
+returns-in_err-reserve_text-clause-since g c t n first since hard st =
     stood_on g.D.Disk.image g.D.Disk.may_leave g.D.Disk.past g.D.Disk.moment g.D.Disk.left_since g.D.Disk.left_with g.met.D.Disk.since_with c.args.self.now _ t n first since hard
-    (same_read g.D.Disk.image c.args.self.now _ c.disk.result.now c.disk.ensures.value (λ unclosed. unclosed) c.prepare.ensures.head c.prepare.ensures.end refl refl refl refl refl refl (λ known. known) (length-lent c.args.self.now.buffer c.plan_changes.new.buffer) (ap g.D.Disk.image c.prepare.ensures.disk ∙ c.plan_changes.ensures.image))
-    (shelf_same g.D.Disk.image c.args.self.now) (still_on g.D.Disk.image g.D.Disk.may_leave g.D.Disk.past g.D.Disk.moment g.D.Disk.left_since g.D.Disk.left_with _ _ _ _ c.disk.ensures.value c.prepare.ensures.disk c.plan_changes.ensures.still) st
+    (same_read g.D.Disk.image c.args.self.now _ c.disk.result.now c.disk.ensures.value (λ unclosed. unclosed) c.reserve_text.ensures.head c.reserve_text.ensures.end refl refl refl refl refl refl (λ known. known) (length-lent c.args.self.now.buffer c.plan_changes.new.buffer) (ap g.D.Disk.image c.reserve_text.ensures.disk ∙ c.plan_changes.ensures.image))
+    (shelf_same g.D.Disk.image c.args.self.now) (still_on g.D.Disk.image g.D.Disk.may_leave g.D.Disk.past g.D.Disk.moment g.D.Disk.left_since g.D.Disk.left_with _ _ _ _ c.disk.ensures.value c.reserve_text.ensures.disk c.plan_changes.ensures.still) st
 
-pub returns-clause-staged : goal.returns-clause-staged
-returns-clause-staged g c =
+pub returns-clause-reserved_group : goal.returns-clause-reserved_group
+returns-clause-reserved_group g c =
     let links = c.in_ok-plan.plan.links in
     let heads = c.in_ok-plan.plan.heads in
     let count = c.in_ok-plan.plan.count in
     let changes = c.args.changes.now in
-    let log = c.prepare.new.self in
+    let log = c.reserve_text.new.self in
     let was = c.args.self.now.count in
-    let bytes : g.D.Disk.image (log_disk log) ≡ g.D.Disk.image c.disk.result.now = ap g.D.Disk.image c.prepare.ensures.disk ∙ c.plan_changes.ensures.image in
-    let head : log_head log ≡ c.head.result.now = c.prepare.ensures.head ∙ sym c.head.ensures in
-    let end : log_end log ≡ c.end-end.result = c.prepare.ensures.end ∙ sym c.end-end.ensures in
+    let bytes : g.D.Disk.image (log_disk log) ≡ g.D.Disk.image c.disk.result.now = ap g.D.Disk.image c.reserve_text.ensures.disk ∙ c.plan_changes.ensures.image in
+    let head : log_head log ≡ c.head.result.now = c.reserve_text.ensures.head ∙ sym c.head.ensures in
+    let end : log_end log ≡ c.end-end.result = c.reserve_text.ensures.end ∙ sym c.end-end.ensures in
     record {
       some = c.requires.some;
       heads = subst (λ (h : StaticHead). FitHeads (2 ^ h.p) heads) (sym head) c.in_ok-plan.ensures.fit;
       links = links;
-      ready = c.in_ok-prepare.ensures.ready;
-      ends = λ number. rw c.prepare.ensures.end (omega (arith, ends_sum number (log_end c.args.self.now.log) changes, c.requires.end));
+      ready = c.in_ok-reserve_text.ensures.ready;
+      ends = λ number. rw c.reserve_text.ensures.end (omega (arith, ends_sum number (log_end c.args.self.now.log) changes, c.requires.end));
       links_are = λ number groups. planned (λ h e. links ≡ links_of h.p (blocks_of h groups) (laid e (group_bodies number changes))) groups _ _ _ _ _ _ bytes head end (c.in_ok-plan.ensures.links number groups);
       heads_are = λ number groups. planned (λ h e. HeadsAre h.p (with_heads heads c.args.self.now.heads.items) (blocks_of h groups ++ laid e (group_bodies number changes))) groups _ _ _ _ _ _ bytes head end
           (subst (λ (l : List ℕ). IfSome (g.D.Disk.image c.disk.result.now) (λ f. IsFile c.head.result.now f groups → HeadsAre c.head.result.now.p (with_heads heads l) (blocks_of c.head.result.now groups ++ laid c.end-end.result (group_bodies number changes)))) c.deref.ensures.value
@@ -80,11 +80,11 @@ returns-clause-staged g c =
 pub returns-clause-stands : goal.returns-clause-stands
 returns-clause-stands g c first since hard st =
     read_on g.D.Disk.image g.D.Disk.may_leave g.D.Disk.past g.D.Disk.moment g.D.Disk.left_since g.D.Disk.left_with c.args.self.now _ first since hard
-    (same_read g.D.Disk.image c.args.self.now _ c.disk.result.now c.disk.ensures.value (λ unclosed. unclosed) c.prepare.ensures.head c.prepare.ensures.end refl refl refl refl refl refl (λ known. known) (length-lent c.args.self.now.buffer c.plan_changes.new.buffer) (ap g.D.Disk.image c.prepare.ensures.disk ∙ c.plan_changes.ensures.image))
-    (shelf_same g.D.Disk.image c.args.self.now) (still_on g.D.Disk.image g.D.Disk.may_leave g.D.Disk.past g.D.Disk.moment g.D.Disk.left_since g.D.Disk.left_with _ _ _ _ c.disk.ensures.value c.prepare.ensures.disk c.plan_changes.ensures.still) st
+    (same_read g.D.Disk.image c.args.self.now _ c.disk.result.now c.disk.ensures.value (λ unclosed. unclosed) c.reserve_text.ensures.head c.reserve_text.ensures.end refl refl refl refl refl refl (λ known. known) (length-lent c.args.self.now.buffer c.plan_changes.new.buffer) (ap g.D.Disk.image c.reserve_text.ensures.disk ∙ c.plan_changes.ensures.image))
+    (shelf_same g.D.Disk.image c.args.self.now) (still_on g.D.Disk.image g.D.Disk.may_leave g.D.Disk.past g.D.Disk.moment g.D.Disk.left_since g.D.Disk.left_with _ _ _ _ c.disk.ensures.value c.reserve_text.ensures.disk c.plan_changes.ensures.still) st
 
 pub returns-clause-since : goal.returns-clause-since
 returns-clause-since g c t n first since hard st =
     stood_on g.D.Disk.image g.D.Disk.may_leave g.D.Disk.past g.D.Disk.moment g.D.Disk.left_since g.D.Disk.left_with g.met.D.Disk.since_with c.args.self.now _ t n first since hard
-    (same_read g.D.Disk.image c.args.self.now _ c.disk.result.now c.disk.ensures.value (λ unclosed. unclosed) c.prepare.ensures.head c.prepare.ensures.end refl refl refl refl refl refl (λ known. known) (length-lent c.args.self.now.buffer c.plan_changes.new.buffer) (ap g.D.Disk.image c.prepare.ensures.disk ∙ c.plan_changes.ensures.image))
-    (shelf_same g.D.Disk.image c.args.self.now) (still_on g.D.Disk.image g.D.Disk.may_leave g.D.Disk.past g.D.Disk.moment g.D.Disk.left_since g.D.Disk.left_with _ _ _ _ c.disk.ensures.value c.prepare.ensures.disk c.plan_changes.ensures.still) st
+    (same_read g.D.Disk.image c.args.self.now _ c.disk.result.now c.disk.ensures.value (λ unclosed. unclosed) c.reserve_text.ensures.head c.reserve_text.ensures.end refl refl refl refl refl refl (λ known. known) (length-lent c.args.self.now.buffer c.plan_changes.new.buffer) (ap g.D.Disk.image c.reserve_text.ensures.disk ∙ c.plan_changes.ensures.image))
+    (shelf_same g.D.Disk.image c.args.self.now) (still_on g.D.Disk.image g.D.Disk.may_leave g.D.Disk.past g.D.Disk.moment g.D.Disk.left_since g.D.Disk.left_with _ _ _ _ c.disk.ensures.value c.reserve_text.ensures.disk c.plan_changes.ensures.still) st
