@@ -19,3 +19,4 @@ s/\bAllHome\b/AllInItsShard/g
 s/\bAllAtHome\b/AllBodiesInShard/g
 s/\bshort_status\b/status_unless_long/g
 s/\bnameless\b/no_header/g
+s/\bshort\b/unless_long/g

@@ -8,7 +8,7 @@ use Rattle.tk_model.specs.declared.record.Pair.{Pair}
 use Rattle.tk_model.specs.declared.record.Action.{Action}
 use Rattle.tk_model.specs.declared.record.Action.TheVariants as actions
 use Rattle.tk_proc.specs.Replies.{get_reply}
-use Rattle.tk_proc.specs.Runs.{action_changes, short}
+use Rattle.tk_proc.specs.Runs.{action_changes, unless_long}
 use Rattle.tk_store.specs.OneRecord.{call_changes}
 
 pick_absent : (b : Bool) (p : Pair) (ps deeper : List Pair) (v : Option (List ℕ)) → (if b then Some p.value else v) ≡ None → (v ≡ None → deeper ≡ ps) → (if b then ps else p ∷ deeper) ≡ p ∷ ps
@@ -30,9 +30,9 @@ acted o k m actions.Drop = dropped o k m (find k m) (absent_stays k m)
 
 -- where the records are told, those after the net changes are those after the action
 pub reached : {P : Type 0} (acts : P → List ℕ → Option (List ℕ) → Action) (o : Order) (p : P) (k : List ℕ) (before after_it : Option (List Pair))
-    → IfSome before (λ m. after_it ≡ Some (after o (call_changes acts p k m) m)) → IfSome before (λ m. after_it ≡ Some (touched o k (short (acts p k (find k m))) m))
+    → IfSome before (λ m. after_it ≡ Some (after o (call_changes acts p k m) m)) → IfSome before (λ m. after_it ≡ Some (touched o k (unless_long (acts p k (find k m))) m))
 reached acts o p k None after_it e = tt
-reached acts o p k (Some m) after_it e = e ∙ ap Some (acted o k m (short (acts p k (find k m))))
+reached acts o p k (Some m) after_it e = e ∙ ap Some (acted o k m (unless_long (acts p k (find k m))))
 
 -- reading keeps every record
 pub get_keeps : (was : Option (List ℕ)) → (get_reply was).action ≡ actions.Keep

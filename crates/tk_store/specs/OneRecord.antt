@@ -9,13 +9,13 @@ use Rattle.tk_model.specs.declared.record.Change.{Change}
 use Rattle.tk_model.specs.declared.record.Pair.{Pair}
 use Rattle.tk_model.specs.Entries.{stored}
 use Rattle.tk_proc.specs.Replies.{Reply}
-use Rattle.tk_proc.specs.Runs.{action_changes, is_long, short}
+use Rattle.tk_proc.specs.Runs.{action_changes, is_long, unless_long}
 use Rattle.tk_status.specs.declared.Status.{Status}
 use Rattle.tk_status.specs.declared.Status.TheVariants.{TooLong}
 
 -- the net changes of a processor's call at a key
 abbrev pub call_changes : {P : Type 0} → (acts : P → List ℕ → Option (List ℕ) → Action) → P → List ℕ → List Pair → List Change
-call_changes acts p k m = action_changes k (find k m) (short (acts p k (find k m)))
+call_changes acts p k m = action_changes k (find k m) (unless_long (acts p k (find k m)))
 
 -- the processor was called; where memory or a disk failed, maybe not
 abbrev pub TurnsTo : {P T : Type 0} → Result T StoreError → (old turned new : P) → Type 0

@@ -4,7 +4,7 @@ ghost use Rattle.tk_model.specs.declared.record.Action.TheVariants.{Keep};
 ghost use Rattle.tk_model.specs.declared.record.Group.{Group};
 ghost use Rattle.tk_model.specs.Records.{find, after, IsClearAlone};
 ghost use Rattle.tk_model.specs.Entries.{group_of, touched};
-ghost use Rattle.tk_proc.specs.Runs.{short, status_unless_long, action_changes};
+ghost use Rattle.tk_proc.specs.Runs.{unless_long, status_unless_long, action_changes};
 ghost use Rattle.tk_store.specs.Store.{First, groups_made_by, floor_after, AllFitWithin, extent_of, HasCause, UnlessFault, OnFull, Keeps, KeepsSince, LeavesSafe, IsWhole, TellsFull, SameContents, OnlyLooks};
 ghost use Rattle.tk_store.specs.OneRecord.{call_changes, TurnsTo, TellsFullOfChanges};
 
@@ -25,7 +25,7 @@ fn changes_of(
     action: Action,
 ) -> Result<ChangeList, NoMemory>
     requires { length key.now ≤ 65535 }
-    ensures net { IfOk result (λ cs. cs ≡ action_changes key.now (option_copied was.entry) (short action)) }
+    ensures net { IfOk result (λ cs. cs ≡ action_changes key.now (option_copied was.entry) (unless_long action)) }
     ensures fit { IfOk result (AllFitWithin 16777215) }
     ensures alone { IfOk result IsClearAlone }
 {
@@ -112,7 +112,7 @@ pub fn run_on<S: SeqStore, P: RecordProcessor>(
     requires may { ((was : Option (List ℕ)) → P.acts p.old key.now was ≡ Keep) ⊎ (((S.constants store.old).writable ≡ true) × ((S.store_view store.old).floor ≤ number)) }
     ensures status { IfSome (S.store_view store.old).map (λ m. IfOk result (λ s. s ≡ status_unless_long (P.acts p.old key.now (find key.now m)))) }
     ensures turned { IfSome (S.store_view store.old).map (λ m. TurnsTo result p.old (P.turns p.old key.now (find key.now m)) p.new) }
-    ensures map { IfSome (S.store_view store.old).map (λ m. OnOk result ((S.store_view store.new).map ≡ Some (touched (S.constants store.old).order key.now (short (P.acts p.old key.now (find key.now m))) m))) }
+    ensures map { IfSome (S.store_view store.old).map (λ m. OnOk result ((S.store_view store.new).map ≡ Some (touched (S.constants store.old).order key.now (unless_long (P.acts p.old key.now (find key.now m))) m))) }
     ensures floor { IfSome (S.store_view store.old).map (λ m.
         OnOk result ((S.store_view store.new).floor ≡ floor_after (S.store_view store.old).floor (group_of number (call_changes P.acts p.old key.now m)))) }
     ensures next { UnlessFault result ((S.store_view store.new).floor ≤ max (S.store_view store.old).floor (number + 1)) }

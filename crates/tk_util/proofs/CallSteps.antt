@@ -13,7 +13,7 @@ use Rattle.tk_model.specs.declared.record.Change.{Change}
 use Rattle.tk_model.specs.declared.record.Order.TheVariants.{Hash}
 use Rattle.tk_model.specs.Records.{find, replay}
 use Rattle.tk_model.specs.Entries.{group_of, touched}
-use Rattle.tk_proc.specs.Runs.{short, status_unless_long}
+use Rattle.tk_proc.specs.Runs.{unless_long, status_unless_long}
 use Rattle.tk_block.specs.declared.head.StaticHead.{StaticHead}
 use Rattle.tk_block.specs.Text.{static_text, static_front, closing_text, base_of}
 use Rattle.tk_block.specs.Layout.{laid, links_of, end_of, texts, bodies_of, heads_text, file_text}
@@ -138,7 +138,7 @@ abbrev pub Told : {D P : Type 0} (image : D → Option (List ℕ)) (may_leave : 
 Told image may_leave past acts turns s t key p q number status m =
     (status ≡ status_unless_long (acts p key (find key m))) × (q ≡ turns p key (find key m))
     × TellsFullOfChanges {T = Status} (hash_constants s) (hash_view image s) (call_changes acts p key m) (Ok status)
-    × (map_in image t ≡ Some (touched Hash key (short (acts p key (find key m))) m))
+    × (map_in image t ≡ Some (touched Hash key (unless_long (acts p key (find key m))) m))
     × ((first : First) (since : List Group) (hard : ℕ) → HashStands image may_leave past s first since hard → HashStands image may_leave past t first (since ++ group_of number (call_changes acts p key m)) hard)
 
 -- a call was made, and the store then closed

@@ -9,7 +9,7 @@ use Rattle.tk_model.specs.declared.record.Action.{Action}
 use Rattle.tk_model.specs.declared.record.Action.TheVariants.{Keep}
 use Rattle.tk_status.specs.declared.Status.{Status}
 use Rattle.tk_proc.specs.Replies.{Reply, get_reply}
-use Rattle.tk_proc.specs.Runs.{is_long, short, action_changes}
+use Rattle.tk_proc.specs.Runs.{is_long, unless_long, action_changes}
 use Rattle.tk_store.specs.OneRecord.{call_changes}
 use Rattle.tk_util.specs.declared.call.Stop.{Stop}
 use Rattle.tk_util.specs.declared.call.Stop.TheVariants.{Refused, Full, Fault, NoMemory}
@@ -25,7 +25,7 @@ module _ {P : Type 0} (acts : P → List ℕ → Option (List ℕ) → Action) (
     (agree : (was : Option (List ℕ)) → acts old key was ≡ (reply was).action) (fits : (was : Option (List ℕ)) → is_long (reply was).action ≡ false) where
   pub changes_same : (groups : List Group) → call_changes acts old key (replay Hash groups []) ≡ reply_changes reply groups key
   changes_same groups =
-      ap (λ (a : Action). action_changes key (value_in groups key) a) (ap short (agree (value_in groups key)) ∙ pick_short (is_long (reply (value_in groups key)).action) (reply (value_in groups key)).action (fits (value_in groups key)))
+      ap (λ (a : Action). action_changes key (value_in groups key) a) (ap unless_long (agree (value_in groups key)) ∙ pick_short (is_long (reply (value_in groups key)).action) (reply (value_in groups key)).action (fits (value_in groups key)))
 
   made_is : (writable : Bool) (f : List ℕ) (new : P) (after : Option (List ℕ)) (status : Status) → (m : Made acts turns writable f key old new after status) → IsMade writable reply key f after (value_in m.holds.groups key)
   made_is writable f new after status m = record {
