@@ -182,3 +182,16 @@ hard_snoc (x ∷ xs) e h = ap (λ b. cond (is_hard x) true b) (hard_snoc xs e h)
 pub synced_snoc : (es : List Entry) (e : Entry) → is_hard e ≡ false → synced (es ++ e ∷ []) ≡ synced es
 synced_snoc [] e h = ap (λ b. cond b (e ∷ []) []) (hard_snoc [] e h)
 synced_snoc (x ∷ xs) e h = ap (λ b. cond b (x ∷ synced (xs ++ e ∷ [])) []) (hard_snoc (x ∷ xs) e h) ∙ ap (λ es. cond (has_hard (x ∷ xs)) (x ∷ es) []) (synced_snoc xs e h)
+
+-- a hard synchronisation that is the last call makes all safe
+pub synced_hard : (es : List Entry) (e : Entry) → is_hard e ≡ true → synced (es ++ e ∷ []) ≡ es ++ e ∷ []
+synced_hard [] e h = ap (λ b. cond b (e ∷ []) []) (ap (λ b. cond b true false) h)
+synced_hard (x ∷ xs) e h = ap (λ b. cond b (x ∷ synced (xs ++ e ∷ [])) []) (ends_hard (x ∷ xs) e h) ∙ ap (λ es. x ∷ es) (synced_hard xs e h)
+  where
+    ends_hard : (es : List Entry) (e : Entry) → is_hard e ≡ true → has_hard (es ++ e ∷ []) ≡ true
+    ends_hard [] e h = ap (λ b. cond b true false) h
+    ends_hard (x ∷ xs) e h = ap (λ b. cond (is_hard x) true b) (ends_hard xs e h) ∙ always (is_hard x)
+      where
+        always : (b : Bool) → cond b true true ≡ true
+        always true = refl
+        always false = refl

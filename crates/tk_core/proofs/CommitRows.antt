@@ -1,6 +1,7 @@
 -- A call that is committed: the rows show the callers of the rule once it stands in the history.
-use Rattle.std.proofs.Common.{◌≡◌, ◌≢◌, ◌⊎◌, ℕ, ◌+◌, ◌-◌, ◌<◌, Bool, true, false, List, [], ◌∷◌, ◌++◌, length, length-append, map, filter, set, get_or, refl, sym, ap, ◌∙◌, subst, arith, Decides}
+use Rattle.std.proofs.Common.{◌≡◌, ◌≢◌, ◌⊎◌, ℕ, ◌+◌, ◌-◌, ◌<◌, Bool, true, false, List, [], ◌∷◌, ◌++◌, length, reverse, length-append, map, filter, set, get_or, refl, sym, ap, ◌∙◌, subst, arith, Decides}
 use lib.ListN.{get_elem?}
+use Rattle.std.proofs.lemmas.List.{reverse-append}
 use mathlib.Core.Option.{some}
 use lib.Seq.{map-set}
 use Rattle.tk_model.specs.declared.record.Pair.{Pair}
@@ -38,13 +39,13 @@ moved f r log m n e same w = record {
 -- ---- the rows after it
 
 -- the row of the caller that made it
-fresh_row : (log : List Entry) (row new : Row) (e : Entry) (n : ℕ) → Fits log row → n ≡ length log → new ≡ record row { allowance = row.allowance - 1; seen = n + 1; base = n + 1; mine = new.mine } → new.mine.items ≡ n ∷ row.mine.items
+fresh_row : (log : List Entry) (row new : Row) (e : Entry) (n : ℕ) → Fits log row → n ≡ length log → new ≡ record row { allowance = row.allowance - 1; seen = n + 1; base = n + 1; mine = new.mine } → new.mine.items ≡ row.mine.items ++ n ∷ []
     → caller_of (log ++ e ∷ []) new ≡ committed log e (caller_of log row)
 fresh_row log row new e n fit at is mine =
     let len : length (log ++ e ∷ []) ≡ length log + 1 = length-append log (e ∷ []) in
     let whole : firsts (n + 1) (log ++ e ∷ []) ≡ log ++ e ∷ [] = firsts_all (n + 1) (log ++ e ∷ []) (omega arith) in
-    let mines : numbered (log ++ e ∷ []) new.mine.items ≡ (length log, e) ∷ numbered log row.mine.items =
-    ap (numbered (log ++ e ∷ [])) mine ∙ (λ t. (at t, at_end log e entries.Clear n at t) ∷ numbered_longer log (e ∷ []) row.mine.items fit.mine t) in
+    let mines : numbered (log ++ e ∷ []) (reverse new.mine.items) ≡ (length log, e) ∷ numbered log (reverse row.mine.items) =
+    ap (λ ns. numbered (log ++ e ∷ []) (reverse ns)) mine ∙ ap (numbered (log ++ e ∷ [])) (reverse-append row.mine.items (n ∷ [])) ∙ (λ t. (at t, at_end log e entries.Clear n at t) ∷ numbered_longer log (e ∷ []) (reverse row.mine.items) fit.mine t) in
     ap (caller_of (log ++ e ∷ [])) is ∙ (λ t. record (caller_of log row) { allowance = row.allowance - 1; seen = whole t; base = whole t; mine = mines t })
 
 module _ (f : Frame) (log : List Entry) (owners : List ℕ) (spoilt away : List Bool) (rows : List Row) where
@@ -98,9 +99,9 @@ module _ (f : Frame) (log : List Entry) (owners : List ℕ) (spoilt away : List 
         -- nothing changed, where memory was wanted
         pub undone : (es : List Entry) → es ≡ log → new ≡ record row { mine = new.mine } → new.mine.items ≡ row.mine.items → shown es (set rows i new) ≡ old
         undone es back only mine = ap (λ (l : List Entry). shown l (set rows i new)) back
-            ∙ unchanged f log owners spoilt away rows i row new is old view ok (b.0, b.1, tt) (ap (caller_of log) only ∙ (λ t. record (caller_of log row) { mine = numbered log (mine t) }))
+            ∙ unchanged f log owners spoilt away rows i row new is old view ok (b.0, b.1, tt) (ap (caller_of log) only ∙ (λ t. record (caller_of log row) { mine = numbered log (reverse (mine t)) }))
 
-        pub did : (es : List Entry) (n : ℕ) → es ≡ log ++ e ∷ [] → n ≡ length log → new ≡ record row { allowance = row.allowance - 1; seen = n + 1; base = n + 1; mine = new.mine } → new.mine.items ≡ n ∷ row.mine.items
+        pub did : (es : List Entry) (n : ℕ) → es ≡ log ++ e ∷ [] → n ≡ length log → new ≡ record row { allowance = row.allowance - 1; seen = n + 1; base = n + 1; mine = new.mine } → new.mine.items ≡ row.mine.items ++ n ∷ []
             → IsDone (moves.Commit i e) old (shown es (set rows i new))
         did es n snoc len only mine =
             let fresh : caller_of (log ++ e ∷ []) new ≡ committed log e (caller_of log row) = fresh_row log row new e n (row_fits i row (in_rows b) is) len only mine in

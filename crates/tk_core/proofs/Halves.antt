@@ -23,6 +23,9 @@ module _ (f : Frame) (law : List Pair → Type 0) (m : List Pair) (log : List En
   own : Knows f law m log owner spoilt away stands id v
   own = sound.knows id v at
 
+  nothing_read : (y : List ℕ) → Reads f [] y → ⊥
+  nothing_read y r = ⊎_elim (λ (t : has (stripe_lock f y) [] ≡ true). absurd cc) (λ (t : has (store_lock f (store_of f y)) [] ≡ true). absurd cc) r
+
   pub splits : IsIdle v → Sound f law m log owner spoilt away stands (set callers id (kept_half v) ++ new_half v ∷ [])
   splits may = let k = own in let w : Caller = kept_half v in let n : Caller = new_half v in let rest : List Caller = set callers id w in
       let half : v.allowance / 2 + (v.allowance - v.allowance / 2) ≡ v.allowance = omega arith in
@@ -75,12 +78,9 @@ module _ (f : Frame) (law : List Pair → Type 0) (m : List Pair) (log : List En
         stores = sound.stores;
         tally = λ i. let a = total_snoc (λ (u : Caller). count i u.broke + count i u.breaking) rest n in let t = total_set (λ (u : Caller). count i u.broke + count i u.breaking) callers id v w at in let p = sound.tally i in omega arith;
       }
-    where
-      nothing_read : (y : List ℕ) → Reads f [] y → ⊥
-      nothing_read y r = ⊎_elim (λ (t : has (stripe_lock f y) [] ≡ true). absurd cc) (λ (t : has (store_lock f (store_of f y)) [] ≡ true). absurd cc) r
 
-  pub joins : (other : ℕ) (u : Caller) → get_elem? callers other ≡ some u → MayJoin id other v u → Sound f law m log owner spoilt away stands (set (set callers id (joined v u)) other (spent u))
-  joins other u there may = let k = own in let ku = sound.knows other u there in let w : Caller = joined v u in let z : Caller = spent u in let first : List Caller = set callers id w in
+  pub joins : (other : ℕ) (u : Caller) → get_elem? callers other ≡ some u → MayJoin id other v u → Sound f law m log owner spoilt away stands (set (set callers id (joined v u)) other spent)
+  joins other u there may = let k = own in let ku = sound.knows other u there in let w : Caller = joined v u in let z : Caller = spent in let first : List Caller = set callers id w in
       let apart : other ≢ id = λ e. may.apart (sym e) in
       let still_there : get_elem? first other ≡ some u = set_else callers id other w apart ∙ there in
       record {
@@ -97,19 +97,19 @@ module _ (f : Frame) (law : List Pair → Type 0) (m : List Pair) (log : List En
         weights = let a = total_set weight callers id v w at in let b = total_set weight first other u z still_there in let d = length-append v.mine u.mine in let p = sound.weights in omega arith;
         knows = seats_stay (Knows f law m log owner spoilt away stands) first other z
             record {
-              spent = λ _. record { light = refl; held = may.held.1; broke = refl };
-              owns = ku.owns;
-              seen = ku.seen;
-              base = ku.base;
+              spent = λ _. record { light = refl; held = refl; broke = refl };
+              owns = λ l h. absurd cc;
+              seen = (log, refl);
+              base = (log, refl);
               placed = tt;
-              weighs = λ l h. absurd (none_held l u.held may.held.1 h);
+              weighs = λ l h. absurd cc;
               heavy = λ i h. absurd (omega arith);
-              still = record { records = ku.still.records; groups = ku.still.groups; hard = ku.still.hard };
-              out = ku.out;
+              still = record { records = λ y r. absurd (nothing_read y r); groups = λ i low h. absurd cc; hard = λ i low h. absurd cc };
+              out = λ i. refl;
               wants = λ l e. absurd (cc (e));
               met = λ i h. absurd cc;
-              found = λ i h s. absurd (none_held (store_lock f i) u.held may.held.1 h);
-              breaking = ku.breaking;
+              found = λ i h s. absurd cc;
+              breaking = λ i h. absurd cc;
             }
             (λ j d ne e. seats_stay (Knows f law m log owner spoilt away stands) callers id w
             record {
@@ -132,7 +132,9 @@ module _ (f : Frame) (law : List Pair → Type 0) (m : List Pair) (log : List En
         home = sound.home;
         stores = sound.stores;
         tally = λ i. let a = total_set (λ (c : Caller). count i c.broke + count i c.breaking) callers id v w at in let b = total_set (λ (c : Caller). count i c.broke + count i c.breaking) first other u z still_there in
-            let d = count_append i v.broke u.broke in let p = sound.tally i in omega arith;
+            let d = count_append i v.broke u.broke in
+            let none : count i u.breaking ≡ 0 = hasnt_count i u.breaking (by_bool (has i u.breaking) (λ h. absurd (none_held (store_lock f i) u.held may.held.1 (ku.breaking i h))) (λ h. h)) in
+            let p = sound.tally i in omega arith;
       }
     where
       longer_prefix : (b : Bool) → IsPrefix v.seen log → IsPrefix u.seen log → IsPrefix (cond b u.seen v.seen) log
@@ -144,7 +146,7 @@ module _ (f : Frame) (law : List Pair → Type 0) (m : List Pair) (log : List En
       heavier (suc x) y a b c p q h e = let t : 0 < a = p (omega arith) in omega arith
 
   -- with the whole weight nobody else has any
-  pub knows_all : weight v ≡ 2 ^ 62 → v.held ≡ [] → ((l : ℕ) → owner l ≡ 0) × ((k : ℕ) → times k v.mine ≡ once_below k (length log)) × ((i : ℕ) → count i v.broke ≡ cond (spoilt i) 1 0)
+  pub knows_all : weight v ≡ 2 ^ 62 → v.held ≡ [] → ((l : ℕ) → owner l ≡ 0) × ((k : ℕ) → times k v.mine ≡ once_below k (length log)) × ((i : ℕ) → count i v.broke ≡ cond (spoilt i) 1 0) × (length v.mine ≡ length log)
   knows_all all_weight nothing_held =
       let nothing : (j : ℕ) (u : Caller) → j ≢ id → get_elem? callers j ≡ some u → weight u ≡ 0 = λ j u ne q. let t = total_two weight callers j id u v ne q at in let p = sound.weights in omega arith in (
         (λ l. nobody_has l (owner l) refl (λ j o. ⊎_elim (λ (t : (j ≡ id) × (has l v.held ≡ true)). none_held l v.held nothing_held t.1)
@@ -156,6 +158,7 @@ module _ (f : Frame) (law : List Pair → Type 0) (m : List Pair) (log : List En
             let b : count i u.breaking ≡ 0 = hasnt_count i u.breaking (by_bool (has i u.breaking) (λ h. let w = kn.weighs (store_lock f i) (kn.breaking i h) in absurd (omega arith)) (λ h. h)) in omega arith) in
             let mine : count i v.breaking ≡ 0 = hasnt_count i v.breaking (by_bool (has i v.breaking) (λ h. absurd (none_held (store_lock f i) v.held nothing_held (own.breaking i h))) (λ h. h)) in
             let p = sound.tally i in omega arith),
+        sym (total_alone (λ (u : Caller). length u.mine) callers id v at (λ j u ne q. let light = nothing j u ne q in omega arith)) ∙ sound.made,
       )
     where
       nobody_has : (l o : ℕ) → owner l ≡ o → ((j : ℕ) → owner l ≡ suc j → ⊥) → owner l ≡ 0

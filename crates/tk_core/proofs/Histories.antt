@@ -1,5 +1,5 @@
 -- Histories that are kept as lengths, and calls that are kept as numbers, stay as the history grows.
-use Rattle.std.proofs.Common.{◌≡◌, ℕ, zero, suc, ◌<◌, ◌≤◌, List, [], ◌∷◌, ◌++◌, length, length-append, map, get_or, refl, sym, ap, arith, cond, ltb}
+use Rattle.std.proofs.Common.{◌≡◌, ℕ, zero, suc, ◌<◌, ◌≤◌, List, [], ◌∷◌, ◌++◌, length, reverse, length-append, map, get_or, refl, sym, ap, arith, cond, ltb}
 use mathlib.Core.List.{IsPrefix}
 use mathlib.Core.Option.{some}
 use lib.ListN.{get_elem?}
@@ -54,10 +54,10 @@ numbered_longer log es (n ∷ ns) h = let low = inside log n (get_or log n entri
 pub record Fits (log : List Entry) (r : Row) : Type 0 where
   pub seen : r.seen ≤ length log
   pub base : r.base ≤ length log
-  pub mine : InPlace log (numbered log r.mine.items)
+  pub mine : InPlace log (numbered log (reverse r.mine.items))
 
 pub row_longer : (log es : List Entry) (r : Row) → Fits log r → caller_of (log ++ es) r ≡ caller_of log r
-row_longer log es r h = λ t. record (caller_of log r) { seen = firsts_longer r.seen log es h.seen t; base = firsts_longer r.base log es h.base t; mine = numbered_longer log es r.mine.items h.mine t }
+row_longer log es r h = λ t. record (caller_of log r) { seen = firsts_longer r.seen log es h.seen t; base = firsts_longer r.base log es h.base t; mine = numbered_longer log es (reverse r.mine.items) h.mine t }
 
 pub map_alike : {A B : Type 0} (f g : A → B) (xs : List A) → ((j : ℕ) (x : A) → get_elem? xs j ≡ some x → f x ≡ g x) → map f xs ≡ map g xs
 map_alike f g [] h = refl

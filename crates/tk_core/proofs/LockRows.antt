@@ -1,5 +1,5 @@
 -- What the rows of the program show where locks and stores pass, and callers are joined.
-use Rattle.std.proofs.Common.{◌≡◌, ℕ, zero, suc, ◌+◌, ◌-◌, ◌≢◌, ◌^◌, ◌<◌, ◌==◌, Bool, true, false, List, [], ◌∷◌, ◌++◌, Option, None, map, length, set, get_or, refl, sym, ap, ◌∙◌, subst, arith, cond, filter, not, max, eq-eqb, ne_eqb, length-set}
+use Rattle.std.proofs.Common.{◌≡◌, ℕ, zero, suc, ◌+◌, ◌-◌, ◌≢◌, ◌^◌, ◌<◌, ◌==◌, Bool, true, false, List, [], ◌∷◌, ◌++◌, Option, None, map, length, reverse, set, get_or, refl, sym, ap, ◌∙◌, subst, arith, cond, filter, not, max, eq-eqb, ne_eqb, length-set}
 use mathlib.Core.Logic.{dite}
 use native.Mathlib.Decide.{dec_le}
 use Rattle.std.specs.Bool.{then_some}
@@ -7,6 +7,7 @@ use Rattle.std.specs.Option.{option_to_list}
 use Rattle.tk_model.specs.declared.record.Entry.{Entry}
 use Rattle.std.proofs.Math.Nat.{max-eq_left, max-eq_right}
 use Rattle.std.proofs.lemmas.Bool.{le-ltb, lt-ltb}
+use Rattle.std.proofs.lemmas.List.{length-reverse}
 use mathlib.Core.Option.{some}
 use lib.ListN.{get_elem?}
 use Rattle.tk_model.specs.declared.record.Entry.TheVariants as entries
@@ -24,9 +25,12 @@ use Rattle.tk_core.proofs.Facts.{by_test, total_two}
 use Rattle.tk_core.proofs.Histories.{longer_firsts}
 use Rattle.tk_core.proofs.Rows.{IsDone, core, at_row, need, from_view, one_done, done, one_map, put_set, AnyRow, in_map, there, of_row, set_miss, set_again}
 
-pub length_numbered : (log : List Entry) (ns : List ℕ) → length (numbered log ns) ≡ length ns
+length_numbered : (log : List Entry) (ns : List ℕ) → length (numbered log ns) ≡ length ns
 length_numbered log [] = refl
 length_numbered log (n ∷ ns) = ap suc (length_numbered log ns)
+
+pub length_mine : (log : List Entry) (ns : List ℕ) → length (numbered log (reverse ns)) ≡ length ns
+length_mine log ns = length_numbered log (reverse ns) ∙ length-reverse ns
 
 pub filter_without : (x : ℕ) (xs : List ℕ) → filter (λ y. not (y == x)) xs ≡ without x xs
 filter_without x [] = refl
@@ -187,7 +191,7 @@ module _ (f : Frame) (log : List Entry) (owners : List ℕ) (spoilt away : List 
         core_of : List Caller → CoreState
         core_of cs = record { frame = f; log = log; owners = owners; spoilt = spoilt; away = away; callers = cs }
 
-    pub join_done : caller_of log new ≡ joined (caller_of log row) (caller_of log gone) → caller_of log left ≡ spent (caller_of log gone) → IsDone (moves.Join i j) old (with_rows (set (set (set rows j blank) i new) j left))
+    pub join_done : caller_of log new ≡ joined (caller_of log row) (caller_of log gone) → caller_of log left ≡ spent → IsDone (moves.Join i j) old (with_rows (set (set (set rows j blank) i new) j left))
     join_done e g =
         let v : Caller = caller_of log row in
         let u : Caller = caller_of log gone in
@@ -201,5 +205,5 @@ module _ (f : Frame) (log : List Entry) (owners : List ℕ) (spoilt away : List 
           gone = u;
           is_gone = at_second;
           needs = record { apart = apart; live = (p.0, q.0); held = (p.1, q.1) };
-          after = λ t. record { law = λ m. true; first = []; log = log; owner = λ z. get_or owners z 0; spoilt = λ z. get_or spoilt z false; away = λ z. get_or away z false; stands = λ z gs m. true; callers = pair (joined v u) (spent u) e g t };
+          after = λ t. record { law = λ m. true; first = []; log = log; owner = λ z. get_or owners z 0; spoilt = λ z. get_or spoilt z false; away = λ z. get_or away z false; stands = λ z gs m. true; callers = pair (joined v u) spent e g t };
         }))

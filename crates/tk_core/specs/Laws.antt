@@ -1,5 +1,5 @@
 -- Each kind of move keeps the rule, and no state that meets the rule has a ring.
-use Rattle.std.specs.Prelude.{◌≡◌, ◌<◌, ◌^◌, ℕ, Bool, true, false, List, [], length, filter, cond}
+use Rattle.std.specs.Prelude.{◌≡◌, ◌<◌, ◌^◌, ℕ, Bool, true, false, List, [], ◌∷◌, ◌++◌, length, filter, cond}
 use Rattle.tk_model.specs.declared.record.Group.{Group}
 use Rattle.tk_model.specs.declared.record.Pair.{Pair}
 use Rattle.tk_model.specs.declared.record.Entry.{Entry}
@@ -12,7 +12,7 @@ use Rattle.tk_core.specs.Steps.{Steps, Runs, RunsFar, start, MayStart}
 use Rattle.tk_core.specs.declared.moves.Move.{Move}
 use Rattle.tk_model.specs.Records.{find, Rising}
 use Rattle.tk_model.specs.Entries.{is_legal, after_entry, changes_of, is_in_shard}
-use Rattle.tk_core.specs.Rule.{map_after, groups_of, hard_groups, known, owed, owed_hard, shard}
+use Rattle.tk_core.specs.Rule.{map_after, groups_of, hard_groups, is_hard, known, owed, owed_hard, shard}
 use Rattle.tk_core.specs.Rings.{HasNoRing}
 use Rattle.tk_core.specs.States.{State, IsSound, IsCaller, after_take_stripe, after_take_store, after_miss, after_give_stripe, after_give_store, after_look, after_out, after_back, after_commit, after_split, after_join}
 
@@ -44,6 +44,10 @@ StandsAnew f = (s : State) (now : ℕ → List Group → ℕ → Bool) → IsSou
 abbrev pub CommitKeeps : Frame → Type 0
 CommitKeeps f = (s : State) (id : ℕ) (v : Caller) (e : Entry) → IsSound f s → IsCaller s id v → MayCommit f (λ m. s.law m ≡ true) s.first e v → IsSound f (after_commit id v e s)
 
+-- a hard synchronisation that is the last call makes all groups safe
+abbrev pub SyncsAll : Frame → Type 0
+SyncsAll f = (m : List Pair) (log : List Entry) (e : Entry) (i : ℕ) → is_hard e ≡ true → hard_groups f m (log ++ e ∷ []) i ≡ length (groups_of f m (log ++ e ∷ []) i)
+
 pub record HalvesKeep (f : Frame) : Type 0 where
   pub split : (s : State) (id : ℕ) (v : Caller) → IsSound f s → IsCaller s id v → MaySplit (length s.callers) v → IsSound f (after_split id v s)
   pub join : (s : State) (id other : ℕ) (v u : Caller) → IsSound f s → IsCaller s id v → IsCaller s other u → MayJoin id other v u → IsSound f (after_join id other v u s)
@@ -53,6 +57,7 @@ pub record HasAll (s : State) (v : Caller) : Type 0 where
   pub free : (l : ℕ) → s.owner l ≡ 0
   pub home : (i : ℕ) → s.away i ≡ false
   pub numbers : (k : ℕ) → times k v.mine ≡ once_below k (length s.log)
+  pub all : length v.mine ≡ length s.log
   pub broke : (i : ℕ) → count i v.broke ≡ cond (s.spoilt i) 1 0
 
 -- who has the whole weight, and no lock, has all

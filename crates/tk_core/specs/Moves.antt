@@ -56,5 +56,5 @@ longer xs ys = cond (ltb (length xs) (length ys)) ys xs
 abbrev pub joined : Caller → Caller → Caller
 joined v u = record v { allowance = v.allowance + u.allowance; seen = longer v.seen u.seen; mine = v.mine ++ u.mine; broke = v.broke ++ u.broke; met = v.met ++ u.met }
 
-abbrev pub spent : Caller → Caller
-spent u = record u { live = false; allowance = 0; want = None; mine = []; broke = []; met = [] }
+abbrev pub spent : Caller
+spent = record { live = false; allowance = 0; held = []; want = None; out = []; seen = []; base = []; mine = []; breaking = []; broke = []; met = [] }

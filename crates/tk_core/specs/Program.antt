@@ -1,5 +1,5 @@
 -- The core as the program keeps it: plain data, in which a caller's histories are lengths.
-use Rattle.std.specs.Prelude.{◌≡◌, ℕ, zero, suc, ◌+◌, Bool, true, false, List, [], ◌∷◌, length, replicate, get_or}
+use Rattle.std.specs.Prelude.{◌≡◌, ℕ, zero, suc, ◌+◌, Bool, true, false, List, [], ◌∷◌, length, reverse, replicate, get_or}
 use Rattle.tk_model.specs.declared.record.Entry.{Entry}
 use Rattle.tk_model.specs.declared.record.Entry.TheVariants as entries
 use Rattle.tk_core.specs.declared.frame.Frame.{Frame}
@@ -44,7 +44,7 @@ numbered log (n ∷ ns) = (n, get_or log n entries.Clear) ∷ numbered log ns
 
 abbrev pub caller_of : List Entry → Row → Caller
 caller_of log r =
-    record { live = r.live; allowance = r.allowance; held = r.held.items; want = r.want; out = r.out.items; seen = firsts r.seen log; base = firsts r.base log; mine = numbered log r.mine.items; breaking = r.breaking.items; broke = r.broke.items; met = r.met.items }
+    record { live = r.live; allowance = r.allowance; held = r.held.items; want = r.want; out = r.out.items; seen = firsts r.seen log; base = firsts r.base log; mine = numbered log (reverse r.mine.items); breaking = r.breaking.items; broke = r.broke.items; met = r.met.items }
 
 -- a move is done where the answer says so; where not, no state follows, and nothing changed
 pub record IsAnswer (x : Move) (c d : CoreState) (is_done : Bool) : Type 0 where

@@ -70,4 +70,4 @@ abbrev pub after_split : ℕ → Caller → State → State
 after_split id v s = record s { callers = slice_set s.callers id (kept_half v) ++ new_half v ∷ [] }
 
 abbrev pub after_join : ℕ → ℕ → Caller → Caller → State → State
-after_join id other v u s = record s { callers = slice_set (slice_set s.callers id (joined v u)) other (spent u) }
+after_join id other v u s = record s { callers = slice_set (slice_set s.callers id (joined v u)) other spent }

@@ -56,11 +56,9 @@ impl Core {
         }
         let number = self.log.len();
         let row = &mut self.rows[caller as usize];
-        row.mine.insert(0, number)?;
-        if let Err(refused) = push_copy(&mut self.log, entry) {
-            row.mine.remove(0);
-            return Err(refused);
-        }
+        row.mine.reserve(1)?;
+        push_copy(&mut self.log, entry)?;
+        row.mine.push_reserved(number);
         row.allowance -= 1;
         row.seen = number + 1;
         row.base = number + 1;

@@ -1,5 +1,5 @@
 //! Laws, as functions that do nothing.
-ghost use Rattle.tk_core.specs.Laws.{NoRings, LocksKeep, LookKeeps, StoresKeep, StandsAnew, CommitKeeps, HalvesKeep, WholeHasAll, AllReached, CoversEnough, CallersKnow};
+ghost use Rattle.tk_core.specs.Laws.{NoRings, LocksKeep, LookKeeps, StoresKeep, StandsAnew, CommitKeeps, SyncsAll, HalvesKeep, WholeHasAll, AllReached, CoversEnough, CallersKnow};
 
 use crate::Frame;
 
@@ -27,9 +27,10 @@ pub fn stores_keep_the_rule(frame: Frame)
     let _ = frame;
 }
 
-/// A call that is committed keeps the rule, whatever others hold.
+/// A call that is committed keeps the rule, whatever others hold; a hard synchronisation makes all groups safe.
 pub fn commits_keep_the_rule(frame: Frame)
-    ensures { CommitKeeps frame }
+    ensures keeps { CommitKeeps frame }
+    ensures safe { SyncsAll frame }
 {
     let _ = frame;
 }

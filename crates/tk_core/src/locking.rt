@@ -15,6 +15,7 @@ use crate::machine::Row;
 use crate::steps::{holds, is_above};
 use crate::{Core, Frame};
 use std::alloc::Global;
+use std::mem;
 use tk_model::NoMemory;
 
 impl Core {
@@ -153,7 +154,7 @@ impl Core {
             return Ok(false);
         }
         let blank = Row::blank(*self.rows.allocator());
-        let mut gone = std::mem::replace(&mut self.rows[other as usize], blank);
+        let mut gone = mem::replace(&mut self.rows[other as usize], blank);
         let done = self.rows[caller as usize].absorb(&mut gone);
         self.rows[other as usize] = gone;
         done?;
@@ -163,7 +164,7 @@ impl Core {
 
 impl Row {
     /// Whether the row made a call or may make one.
-    #[tactic(auto, using(crate::proofs::LockRows::length_numbered))]
+    #[tactic(auto, using(crate::proofs::LockRows::length_mine))]
     fn weighs(&self) -> bool
         ensures { (log : List Entry) → Decides result (0 < weight (caller_of log self.now)) }
     {
@@ -254,7 +255,9 @@ impl Row {
     }
 
     /// A row of nobody.
-    fn blank(alloc: Global) -> Row {
+    fn blank(alloc: Global) -> Row
+        ensures { (log : List Entry) → caller_of log result ≡ spent }
+    {
         Row {
             live: false,
             allowance: 0,
@@ -273,19 +276,24 @@ impl Row {
     /// The row has all that the other had, and the other nothing any more.
     fn absorb(&mut self, other: &mut Row) -> Result<(), NoMemory>
         requires room { self.old.allowance + other.old.allowance < 2 ^ 64 }
-        ensures joined { IfOk result (λ _. (log : List Entry) → (caller_of log self.new ≡ joined (caller_of log self.old) (caller_of log other.old)) × (caller_of log other.new ≡ spent (caller_of log other.old))) }
+        ensures joined { IfOk result (λ _. (log : List Entry) → (caller_of log self.new ≡ joined (caller_of log self.old) (caller_of log other.old)) × (caller_of log other.new ≡ spent)) }
         ensures want { IfErr result (λ e. (log : List Entry) → (caller_of log self.new ≡ caller_of log self.old) × (caller_of log other.new ≡ caller_of log other.old)) }
     {
-        self.mine.reserve(other.mine.len())?;
+        other.mine.reserve(self.mine.len())?;
         self.broke.reserve(other.broke.len())?;
         self.met.append(&mut other.met)?;
         self.broke.append(&mut other.broke)?;
-        self.mine.append(&mut other.mine)?;
-        self.allowance += other.allowance;
-        self.seen = self.seen.max(other.seen);
-        other.live = false;
-        other.allowance = 0;
-        other.want = None;
+        other.mine.append(&mut self.mine)?;
+        let blank = Row::blank(*self.met.allocator());
+        let Row {
+            allowance,
+            seen,
+            mine,
+            ..
+        } = mem::replace(other, blank);
+        self.allowance += allowance;
+        self.seen = self.seen.max(seen);
+        self.mine = mine;
         Ok(())
     }
 }

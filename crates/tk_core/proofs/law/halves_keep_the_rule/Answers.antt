@@ -10,4 +10,4 @@ returns-clause-halves c = record {
 pub returns-clause-whole : goal.returns-clause-whole
 returns-clause-whole c = λ s id v sound at whole held.
     let all = knows_all _ _ _ _ _ _ _ _ _ sound id v at whole held in
-    record { free = all.0; home = λ i. sound.home i (all.0 _); numbers = all.1; broke = all.2 }
+    record { free = all.0; home = λ i. sound.home i (all.0 _); numbers = all.1; all = all.3; broke = all.2 }
