@@ -20,6 +20,8 @@ pub use machine::Core;
 pub use moves::{Move, MoveList};
 
 #[cfg(test)]
+mod cover_tests;
+#[cfg(test)]
 mod run_tests;
 #[cfg(test)]
 mod tests;

@@ -1,0 +1,10 @@
+use tk_model::ListOf;
+
+/// A store, and the count of faults that is kept of a broken one.
+#[derive(Drop)]
+pub struct Home<S> {
+    pub store: S,
+    pub broken: Option<u64>,
+}
+
+pub type StoreList<S> = ListOf<S>;
