@@ -4,10 +4,10 @@ ghost use Rattle.tk_core.specs.Caller.{weight, knows_broken};
 ghost use Rattle.tk_core.specs.Covers.{store_lock};
 ghost use Rattle.tk_core.specs.Lists.{has, AllBelow};
 ghost use Rattle.tk_core.specs.Moves.{gave_stripe};
-ghost use Rattle.tk_core.specs.Needs.{MayCommit};
 ghost use Rattle.tk_locks.specs.View.{noted, with_caller};
-ghost use Rattle.tk_locks.specs.Rule.{records_in, good_of, next_fits, count_at};
-ghost use Rattle.tk_locks.specs.Steps.{MayMark, TookStripe, GotStore, GaveStore, Committed, Fits, Saw, Joined, left_half, right_half};
+ghost use Rattle.tk_locks.specs.Rule.{next_fits, count_at};
+ghost use Rattle.tk_locks.specs.Steps.{MayMark, GaveStore, Joined, left_half, right_half};
+ghost use Rattle.tk_locks.specs.Tells.{TakesStripe, TakesStore, IsOwed, MayMake, Makes, Looks};
 ghost use Rattle.tk_locks.specs.Calls.{view, IsCounted, IsPassOf, its};
 
 use crate::home::Home;
@@ -33,14 +33,17 @@ impl Pass {
 
     pub(crate) fn open<T>(&mut self) -> Seat<T, Seen>
         requires { self.old.badge.views ≡ view self.old ∷ [] }
-        ensures { (result.table_id ≡ self.old.badge.table_id) × (result.me ≡ (view self.old, [])) × (self.new.left ≡ self.old.left) }
+        ensures { (result.table_id ≡ self.old.badge.table_id)
+            × (result.me ≡ (view self.old, [])) × (self.new.left ≡ self.old.left) }
     {
         mem::replace(&mut self.badge, Badge::blank()).into_seat()
     }
 
     pub(crate) fn close<T>(&mut self, seat: Seat<T, Seen>)
         requires { seat.me.1 ≡ [] }
-        ensures { (self.new.badge.table_id ≡ seat.table_id) × (self.new.badge.views ≡ seat.me.0 ∷ []) × (view self.new ≡ seat.me.0) × (self.new.left ≡ self.old.left) }
+        ensures { (self.new.badge.table_id ≡ seat.table_id)
+            × (self.new.badge.views ≡ seat.me.0 ∷ []) × (view self.new ≡ seat.me.0)
+            × (self.new.left ≡ self.old.left) }
     {
         self.badge = seat.into_badge();
     }
@@ -50,9 +53,11 @@ impl<S: SeqStore> LockTable<S> {
     /// Waits until the stripe's lock is free, and takes it.
     pub fn take_stripe<R: Wait>(&self, rt: &R, pass: &mut Pass, i: u32)
         requires own { IsPassOf self.now pass.old }
-        requires lock { (i < (its self.now).frame.stripes) × AllBelow i (view pass.old).caller.held × (0 < weight (view pass.old).caller) }
+        requires lock { (i < (its self.now).frame.stripes)
+            × AllBelow i (view pass.old).caller.held × (0 < weight (view pass.old).caller) }
         ensures own { IsPassOf self.now pass.new }
-        ensures step { TookStripe (its self.now).frame (λ m. S.lawful m ≡ true) (records_in (its self.now).frame.order S.store_view (its self.now).start) i (view pass.old) (view pass.new) }
+        ensures step { TakesStripe S.lawful S.store_view (its self.now) i (view pass.old)
+            (view pass.new) }
     {
         let mut seat: Sitting<S> = pass.open();
         self.take_stripe_as::<R, Brand>(rt, &mut seat, i);
@@ -62,9 +67,12 @@ impl<S: SeqStore> LockTable<S> {
     /// Waits until the store's lock is free, and takes it and the store.
     pub fn take_store<R: Wait>(&self, rt: &R, pass: &mut Pass, i: u32) -> Home<S>
         requires own { IsPassOf self.now pass.old }
-        requires lock { (i < (its self.now).frame.stores) × AllBelow (store_lock (its self.now).frame i) (view pass.old).caller.held × (0 < weight (view pass.old).caller) }
+        requires lock { (i < (its self.now).frame.stores)
+            × AllBelow (store_lock (its self.now).frame i) (view pass.old).caller.held
+            × (0 < weight (view pass.old).caller) }
         ensures own { IsPassOf self.now pass.new }
-        ensures step { GotStore (its self.now).frame (λ m. S.lawful m ≡ true) (records_in (its self.now).frame.order S.store_view (its self.now).start) (good_of S.stands S.store_view S.constants (its self.now)) (next_fits S.store_view (its self.now)) S.fault_count (count_at S.fault_count (its self.now).start) i (view pass.old) result (view pass.new) }
+        ensures step { TakesStore S.lawful S.stands S.store_view S.constants S.fault_count
+            (its self.now) i (view pass.old) result (view pass.new) }
     {
         let mut seat: Sitting<S> = pass.open();
         let home = self.take_store_as::<R, Brand>(rt, &mut seat, i);
@@ -75,13 +83,18 @@ impl<S: SeqStore> LockTable<S> {
     /// Gives the store back, whole or as broken, and its lock.
     pub fn give_store(&self, pass: &mut Pass, i: u32, home: Home<S>)
         requires own { IsPassOf self.now pass.old }
-        requires lock { (i < (its self.now).frame.stores) × (has (store_lock (its self.now).frame i) (view pass.old).caller.held ≡ true) }
-        requires stays { MayMark (its self.now).frame (count_at S.fault_count (its self.now).start) i (view pass.old) home.broken }
-        requires fits { Fits (its self.now).frame (λ m. S.lawful m ≡ true) (records_in (its self.now).frame.order S.store_view (its self.now).start) (good_of S.stands S.store_view S.constants (its self.now)) (next_fits S.store_view (its self.now)) S.fault_count (count_at S.fault_count (its self.now).start) i (view pass.old).caller home }
+        requires lock { (i < (its self.now).frame.stores)
+            × (has (store_lock (its self.now).frame i) (view pass.old).caller.held ≡ true) }
+        requires stays { MayMark (its self.now).frame
+            (count_at S.fault_count (its self.now).start) i (view pass.old) home.broken }
+        requires fits { IsOwed S.lawful S.stands S.store_view S.constants S.fault_count
+            (its self.now) i (view pass.old).caller home }
         requires count { noted i (view pass.old).counts ≤ S.fault_count home.store }
-        requires next { home.broken ≡ None → next_fits S.store_view (its self.now) home.store (length (view pass.old).caller.base) }
+        requires next { home.broken ≡ None
+            → next_fits S.store_view (its self.now) home.store (length (view pass.old).caller.base) }
         ensures own { IsPassOf self.now pass.new }
-        ensures step { GaveStore S.fault_count (its self.now).frame i (view pass.old) home (view pass.new) }
+        ensures step { GaveStore S.fault_count (its self.now).frame i (view pass.old) home
+            (view pass.new) }
     {
         let mut seat: Sitting<S> = pass.open();
         self.give_store_as::<Brand, Brand>(&mut seat, i, home);
@@ -91,9 +104,11 @@ impl<S: SeqStore> LockTable<S> {
     /// The call gets the next number of the history, which is the answer.
     pub fn commit<C: Call>(&self, pass: &mut Pass, call: &C) -> u64
         requires own { IsPassOf self.now pass.old }
-        requires may { MayCommit (its self.now).frame (λ m. S.lawful m ≡ true) (records_in (its self.now).frame.order S.store_view (its self.now).start) (C.entry call.now) (view pass.old).caller }
+        requires may { MayMake S.lawful S.store_view (its self.now) (C.entry call.now)
+            (view pass.old).caller }
         ensures own { IsPassOf self.now pass.new }
-        ensures step { Committed (its self.now).frame (λ m. S.lawful m ≡ true) (records_in (its self.now).frame.order S.store_view (its self.now).start) (C.entry call.now) (view pass.old) result (view pass.new) }
+        ensures step { Makes S.lawful S.store_view (its self.now) (C.entry call.now)
+            (view pass.old) result (view pass.new) }
     {
         let mut seat: Sitting<S> = pass.open();
         let n = self.commit_as::<C, Brand, Brand>(&mut seat, call);
@@ -105,9 +120,11 @@ impl<S: SeqStore> LockTable<S> {
     /// Gives the stripe's lock back.
     pub fn give_stripe(&self, pass: &mut Pass, i: u32)
         requires own { IsPassOf self.now pass.old }
-        requires lock { (i < (its self.now).frame.stripes) × (has i (view pass.old).caller.held ≡ true) }
+        requires lock { (i < (its self.now).frame.stripes)
+            × (has i (view pass.old).caller.held ≡ true) }
         ensures own { IsPassOf self.now pass.new }
-        ensures step { view pass.new ≡ with_caller (gave_stripe i (view pass.old).caller) (view pass.old) }
+        ensures step { view pass.new ≡ with_caller (gave_stripe i (view pass.old).caller)
+            (view pass.old) }
     {
         let mut seat: Sitting<S> = pass.open();
         self.give_stripe_as::<Brand>(&mut seat, i);
@@ -118,7 +135,8 @@ impl<S: SeqStore> LockTable<S> {
     pub fn look(&self, pass: &mut Pass) -> u64
         requires own { IsPassOf self.now pass.old }
         ensures own { IsPassOf self.now pass.new }
-        ensures step { Saw (its self.now).frame (λ m. S.lawful m ≡ true) (records_in (its self.now).frame.order S.store_view (its self.now).start) (view pass.old) result (view pass.new) }
+        ensures step { Looks S.lawful S.store_view (its self.now) (view pass.old) result
+            (view pass.new) }
     {
         let mut seat: Sitting<S> = pass.open();
         let n = self.look_as::<Brand>(&mut seat);
@@ -131,7 +149,8 @@ impl<S: SeqStore> LockTable<S> {
         requires own { IsPassOf self.now pass.old }
         requires none { (view pass.old).caller.held ≡ [] }
         ensures own { IsPassOf self.now pass.new × IsPassOf self.now result }
-        ensures step { (view pass.new ≡ left_half (view pass.old)) × (view result ≡ right_half (view pass.old)) }
+        ensures step { (view pass.new ≡ left_half (view pass.old))
+            × (view result ≡ right_half (view pass.old)) }
     {
         let mut seat: Sitting<S> = pass.open();
         let other = self.split_at(&mut seat);

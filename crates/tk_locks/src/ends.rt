@@ -5,26 +5,29 @@ ghost use Rattle.tk_core.specs.Caller.{weight};
 ghost use Rattle.tk_core.specs.Covers.{IsFrame};
 ghost use Rattle.tk_locks.specs.Homes.{homes_of};
 ghost use Rattle.tk_locks.specs.View.{first_view};
-ghost use Rattle.tk_locks.specs.Rule.{ground_of, records_in, good_of};
+ghost use Rattle.tk_locks.specs.Rule.{ground_of};
 ghost use Rattle.tk_locks.specs.Calls.{at, view, its, IsSeatOf, IsPassOf};
-ghost use Rattle.tk_locks.specs.Made.{Fresh, IsWhole, frame_of};
+ghost use Rattle.tk_locks.specs.Made.{Fresh, frame_of};
+ghost use Rattle.tk_locks.specs.Tells.{FindsAll};
 
 use crate::home::{Home, StoreList};
 use crate::lists::{lodged, put_home, unlodged};
 use crate::pass::Pass;
 use crate::rule::Law;
 use crate::steps::Sitting;
-use crate::table::{LockTable, Origin};
+use crate::table::{LockTable, Origin, Room};
 use crate::view::Seen;
 use atomic_table::{Badge, Refused, Table};
 use std::alloc::Global;
 use std::snapshot::Snapshot;
+use std::sync::Mutex;
 use tk_core::Frame;
 use tk_model::ListOf;
 use tk_store::SeqStore;
 
 impl<S: SeqStore + Drop> LockTable<S> {
-    /// A table of these stores, and the pass that has the whole allowance. At `Err` there was no memory, and the stores come back.
+    /// A table of these stores, and the pass that has the whole allowance. At `Err` there was no
+    /// memory, and the stores come back.
     pub fn make(
         alloc: Global,
         stores: StoreList<S>,
@@ -32,10 +35,12 @@ impl<S: SeqStore + Drop> LockTable<S> {
         base: u64,
     ) -> Result<(LockTable<S>, Pass), StoreList<S>>
         requires frame { IsFrame (frame_of S.constants stores stripes base) }
-        requires fresh { Fresh S.lawful S.stands S.store_view S.constants (frame_of S.constants stores stripes base) (homes_of stores) }
+        requires fresh { Fresh S.lawful S.stands S.store_view S.constants
+            (frame_of S.constants stores stripes base) (homes_of stores) }
         ensures own { IfOk result (λ t. IsPassOf t.0 t.1) }
         ensures first { IfOk result (λ t. view t.1 ≡ first_view) }
-        ensures its { IfOk result (λ t. its t.0 ≡ record { frame = frame_of S.constants stores stripes base; start = homes_of stores }) }
+        ensures its { IfOk result (λ t. its t.0
+            ≡ record { frame = frame_of S.constants stores stripes base; start = homes_of stores }) }
         ensures err { IfErr result (λ s. s ≡ stores) }
     {
         let count = stores.len();
@@ -45,7 +50,7 @@ impl<S: SeqStore + Drop> LockTable<S> {
             order: stores.at(0).order(),
             base,
         };
-        let Ok(room) = Vec::with_capacity(alloc, count) else {
+        let Ok(room) = Vec::with_capacity(alloc, 64) else {
             return Err(stores);
         };
         let Ok(homes) = Vec::with_capacity(alloc, count) else {
@@ -76,8 +81,10 @@ impl<S: SeqStore + Drop> LockTable<S> {
     ) -> Result<(LockTable<S>, Sitting<S>), Vec<Option<Home<S>>>>
         requires frame { IsFrame frame }
         requires fresh { Fresh S.lawful S.stands S.store_view S.constants frame stores.items }
-        requires room { (room.items ≡ []) × (frame.stores ≤ vec_capacity room) }
-        ensures ok { IfOk result (λ t. IsSeatOf t.0 t.1 × (at t.1 ≡ first_view) × (ground_of t.0.table.shared.key ≡ record { frame = frame; start = stores.items })) }
+        requires empty { room.items ≡ [] }
+        requires wide { 64 ≤ vec_capacity room }
+        ensures ok { IfOk result (λ t. IsSeatOf t.0 t.1 × (at t.1 ≡ first_view)
+            × (ground_of t.0.table.shared.key ≡ record { frame = frame; start = stores.items })) }
         ensures err { IfErr result (λ s. s.items ≡ stores.items) }
     {
         let about = Origin {
@@ -94,7 +101,10 @@ impl<S: SeqStore + Drop> LockTable<S> {
             stores,
             &about,
         ) {
-            Ok((table, seat)) => Ok((LockTable { table, frame, room }, seat)),
+            Ok((table, seat)) => {
+                let room = Mutex::new(Room { list: room });
+                Ok((LockTable { table, frame, room }, seat))
+            }
             Err(Refused { slots }) => Err(slots),
         }
     }
@@ -106,8 +116,9 @@ impl<S: SeqStore> LockTable<S> {
         requires own { IsPassOf self pass }
         requires none { (view pass).caller.held ≡ [] }
         ensures few { length result ≤ (its self).frame.stores }
-        ensures whole { weight (view pass).caller ≡ 2 ^ 62 → (calls : ℕ) × IsWhole (its self).frame (λ m. S.lawful m ≡ true) (records_in (its self).frame.order S.store_view (its self).start)
-            (good_of S.stands S.store_view S.constants (its self)) S.fault_count (view pass) calls result }
+        ensures whole { weight (view pass).caller ≡ 2 ^ 62 → (calls : ℕ)
+            × FindsAll S.lawful S.stands S.store_view S.constants S.fault_count
+            (its self) (view pass) calls result }
     {
         let seat: Sitting<S> = pass.open();
         ListOf::from_vec(self.dissolve_as(seat))
@@ -117,14 +128,16 @@ impl<S: SeqStore> LockTable<S> {
         requires own { IsSeatOf self seat }
         requires idle { (at seat).caller.held ≡ [] }
         ensures few { length result.items ≤ (its self).frame.stores }
-        ensures whole { weight (at seat).caller ≡ 2 ^ 62 → (calls : ℕ) × IsWhole (its self).frame (λ m. S.lawful m ≡ true) (records_in (its self).frame.order S.store_view (its self).start)
-            (good_of S.stands S.store_view S.constants (its self)) S.fault_count (at seat) calls result.items }
+        ensures whole { weight (at seat).caller ≡ 2 ^ 62 → (calls : ℕ)
+            × FindsAll S.lawful S.stands S.store_view S.constants S.fault_count
+            (its self) (at seat) calls result.items }
     {
         let LockTable {
             table,
             frame: _,
-            room: mut into,
+            room,
         } = self;
+        let Room { list: mut into } = room.into_inner();
         let mut closed = table.close_with(seat);
         let mut i = 0;
         while i < closed.slot_count() {

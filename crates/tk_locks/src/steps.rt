@@ -1,14 +1,17 @@
 //! The steps, by a seat.
-ghost use Rattle.std.specs.Prelude.{◌≡◌, ◌+◌, ◌<◌, ◌≤◌, ◌^◌, ◌∷◌, ℕ, [], length, true, false, Some, None, is_some, MatchBool, MatchOption};
+ghost use Rattle.std.specs.Prelude.{◌≡◌, ◌+◌, ◌<◌, ◌≤◌, ◌^◌, ◌∷◌, ℕ, [], length, true, false};
+ghost use Rattle.std.specs.Prelude.{Some, None, is_some, MatchBool, MatchOption};
 ghost use Rattle.atomic_table.specs.Table.{rest};
 ghost use Rattle.tk_core.specs.Caller.{knows_broken};
 ghost use Rattle.tk_core.specs.Covers.{store_lock};
 ghost use Rattle.tk_core.specs.Lists.{has};
 ghost use Rattle.tk_core.specs.Moves.{gave_stripe};
-ghost use Rattle.tk_core.specs.Needs.{MayCommit, MayGiveStripe, IsIdle};
+ghost use Rattle.tk_core.specs.Needs.{MayGiveStripe, IsIdle};
 ghost use Rattle.tk_locks.specs.View.{noted, with_caller, with_count};
-ghost use Rattle.tk_locks.specs.Rule.{ground_of, records_in, good_of, next_fits, count_at};
-ghost use Rattle.tk_locks.specs.Steps.{MayWant, MayMark, TookStripe, GotStore, GaveStore, Missed, Committed, Fits, Saw, Joined, left_half, right_half};
+ghost use Rattle.tk_locks.specs.Rule.{ground_of, next_fits, count_at};
+ghost use Rattle.tk_locks.specs.Steps.{MayWant, MayMark, GaveStore, Joined, left_half, right_half};
+ghost use Rattle.tk_locks.specs.Tells.{TakesStripe, Misses, TakesStore, IsOwed};
+ghost use Rattle.tk_locks.specs.Tells.{MayMake, Makes, Looks};
 ghost use Rattle.tk_locks.specs.Calls.{at, IsSeatOf, IsSameSeat};
 
 use crate::home::Home;
@@ -28,10 +31,12 @@ impl<S: SeqStore> LockTable<S> {
     pub(crate) fn try_take_stripe_as<J: Told<S>>(&self, seat: &mut Sitting<S>, lock: u32) -> bool
         requires own { IsSeatOf self.now seat.old }
         requires ground { J.ground ≡ ground_of self.now.table.shared.key }
-        requires lock { (lock < J.ground.frame.stripes) × MayWant J.ground.frame lock (at seat.old).caller }
+        requires lock { (lock < J.ground.frame.stripes) × MayWant J.ground.frame lock
+            (at seat.old).caller }
         ensures own { IsSameSeat seat.old seat.new }
-        ensures step { MatchBool result (TookStripe J.ground.frame (λ m. S.lawful m ≡ true) (records_in J.ground.frame.order S.store_view J.ground.start) lock (at seat.old) (at seat.new))
-            (Missed J.ground.frame (λ m. S.lawful m ≡ true) (records_in J.ground.frame.order S.store_view J.ground.start) lock (at seat.old) (at seat.new)) }
+        ensures step { MatchBool result (TakesStripe S.lawful S.store_view J.ground lock
+            (at seat.old) (at seat.new))
+            (Misses S.lawful S.store_view J.ground lock (at seat.old) (at seat.new)) }
     {
         self.table
             .shared
@@ -46,10 +51,13 @@ impl<S: SeqStore> LockTable<S> {
     ) -> Option<Home<S>>
         requires own { IsSeatOf self.now seat.old }
         requires ground { J.ground ≡ ground_of self.now.table.shared.key }
-        requires lock { (i < J.ground.frame.stores) × MayWant J.ground.frame (store_lock J.ground.frame i) (at seat.old).caller }
+        requires lock { (i < J.ground.frame.stores) × MayWant J.ground.frame
+            (store_lock J.ground.frame i) (at seat.old).caller }
         ensures own { IsSameSeat seat.old seat.new }
-        ensures step { MatchOption result (Missed J.ground.frame (λ m. S.lawful m ≡ true) (records_in J.ground.frame.order S.store_view J.ground.start) (store_lock J.ground.frame i) (at seat.old) (at seat.new))
-            (λ h. GotStore J.ground.frame (λ m. S.lawful m ≡ true) (records_in J.ground.frame.order S.store_view J.ground.start) (good_of S.stands S.store_view S.constants J.ground) (next_fits S.store_view J.ground) S.fault_count (count_at S.fault_count J.ground.start) i (at seat.old) h (at seat.new)) }
+        ensures step { MatchOption result (Misses S.lawful S.store_view J.ground
+            (store_lock J.ground.frame i) (at seat.old) (at seat.new))
+            (λ h. TakesStore S.lawful S.stands S.store_view S.constants S.fault_count J.ground
+            i (at seat.old) h (at seat.new)) }
     {
         let word = self.frame.stripes as usize + i as usize + 1;
         if self
@@ -73,9 +81,10 @@ impl<S: SeqStore> LockTable<S> {
     )
         requires own { IsSeatOf self.now seat.old }
         requires ground { J.ground ≡ ground_of self.now.table.shared.key }
-        requires lock { (lock < J.ground.frame.stripes) × MayWant J.ground.frame lock (at seat.old).caller }
+        requires lock { (lock < J.ground.frame.stripes) × MayWant J.ground.frame lock
+            (at seat.old).caller }
         ensures own { IsSameSeat seat.old seat.new }
-        ensures step { TookStripe J.ground.frame (λ m. S.lawful m ≡ true) (records_in J.ground.frame.order S.store_view J.ground.start) lock (at seat.old) (at seat.new) }
+        ensures step { TakesStripe S.lawful S.store_view J.ground lock (at seat.old) (at seat.new) }
     {
         for _ in rt.forever() {
             if self.try_take_stripe_as::<J>(seat, lock) {
@@ -93,9 +102,11 @@ impl<S: SeqStore> LockTable<S> {
     ) -> Home<S>
         requires own { IsSeatOf self.now seat.old }
         requires ground { J.ground ≡ ground_of self.now.table.shared.key }
-        requires lock { (i < J.ground.frame.stores) × MayWant J.ground.frame (store_lock J.ground.frame i) (at seat.old).caller }
+        requires lock { (i < J.ground.frame.stores) × MayWant J.ground.frame
+            (store_lock J.ground.frame i) (at seat.old).caller }
         ensures own { IsSameSeat seat.old seat.new }
-        ensures step { GotStore J.ground.frame (λ m. S.lawful m ≡ true) (records_in J.ground.frame.order S.store_view J.ground.start) (good_of S.stands S.store_view S.constants J.ground) (next_fits S.store_view J.ground) S.fault_count (count_at S.fault_count J.ground.start) i (at seat.old) result (at seat.new) }
+        ensures step { TakesStore S.lawful S.stands S.store_view S.constants S.fault_count J.ground
+            i (at seat.old) result (at seat.new) }
     {
         for _ in rt.forever() {
             if let Some(home) = self.try_take_store_as::<J>(seat, i) {
@@ -110,7 +121,8 @@ impl<S: SeqStore> LockTable<S> {
         requires ground { J.ground ≡ ground_of self.now.table.shared.key }
         requires may { MayGiveStripe J.ground.frame lock (at seat.old).caller }
         ensures own { IsSameSeat seat.old seat.new }
-        ensures step { at seat.new ≡ with_caller (gave_stripe lock (at seat.old).caller) (at seat.old) }
+        ensures step { at seat.new ≡ with_caller (gave_stripe lock (at seat.old).caller)
+            (at seat.old) }
     {
         self.table.shared.swap::<Give>(seat, lock as usize + 1, 0);
     }
@@ -125,11 +137,15 @@ impl<S: SeqStore> LockTable<S> {
         requires ground { J.ground ≡ ground_of self.now.table.shared.key }
         requires marked { (K.kept ≡ home.broken) × (K.count ≡ S.fault_count home.store) }
         requires live { (at seat.old).caller.live ≡ true }
-        requires lock { (i < J.ground.frame.stores) × (has (store_lock J.ground.frame i) (at seat.old).caller.held ≡ true) × (has i (at seat.old).caller.out ≡ true) }
-        requires stays { MayMark J.ground.frame (count_at S.fault_count J.ground.start) i (at seat.old) home.broken }
-        requires fits { Fits J.ground.frame (λ m. S.lawful m ≡ true) (records_in J.ground.frame.order S.store_view J.ground.start) (good_of S.stands S.store_view S.constants J.ground) (next_fits S.store_view J.ground) S.fault_count (count_at S.fault_count J.ground.start) i (at seat.old).caller home }
+        requires lock { (i < J.ground.frame.stores) × (has (store_lock J.ground.frame i)
+            (at seat.old).caller.held ≡ true) × (has i (at seat.old).caller.out ≡ true) }
+        requires stays { MayMark J.ground.frame (count_at S.fault_count J.ground.start) i
+            (at seat.old) home.broken }
+        requires fits { IsOwed S.lawful S.stands S.store_view S.constants S.fault_count J.ground
+            i (at seat.old).caller home }
         requires count { noted i (at seat.old).counts ≤ S.fault_count home.store }
-        requires next { home.broken ≡ None → next_fits S.store_view J.ground home.store (length (at seat.old).caller.base) }
+        requires next { home.broken ≡ None → next_fits S.store_view J.ground home.store (length
+            (at seat.old).caller.base) }
         ensures own { IsSameSeat seat.old seat.new }
         ensures step { GaveStore S.fault_count J.ground.frame i (at seat.old) home (at seat.new) }
     {
@@ -147,7 +163,7 @@ impl<S: SeqStore> LockTable<S> {
         requires ground { J.ground ≡ ground_of self.now.table.shared.key }
         requires live { (at seat.old).caller.live ≡ true }
         ensures own { IsSameSeat seat.old seat.new }
-        ensures step { Saw J.ground.frame (λ m. S.lawful m ≡ true) (records_in J.ground.frame.order S.store_view J.ground.start) (at seat.old) result (at seat.new) }
+        ensures step { Looks S.lawful S.store_view J.ground (at seat.old) result (at seat.new) }
     {
         self.table.shared.load::<Look<J>>(seat, 0)
     }
@@ -160,9 +176,10 @@ impl<S: SeqStore> LockTable<S> {
         requires own { IsSeatOf self.now seat.old }
         requires said { K.entry ≡ C.entry call.now }
         requires ground { J.ground ≡ ground_of self.now.table.shared.key }
-        requires may { MayCommit J.ground.frame (λ m. S.lawful m ≡ true) (records_in J.ground.frame.order S.store_view J.ground.start) K.entry (at seat.old).caller }
+        requires may { MayMake S.lawful S.store_view J.ground K.entry (at seat.old).caller }
         ensures own { IsSameSeat seat.old seat.new }
-        ensures step { Committed J.ground.frame (λ m. S.lawful m ≡ true) (records_in J.ground.frame.order S.store_view J.ground.start) K.entry (at seat.old) result (at seat.new) }
+        ensures step { Makes S.lawful S.store_view J.ground K.entry (at seat.old) result
+            (at seat.new) }
     {
         let _ = call;
         self.table.shared.fetch_add::<Commit<J, K>>(seat, 0, 1)
@@ -172,7 +189,8 @@ impl<S: SeqStore> LockTable<S> {
         requires own { IsSeatOf self.now seat.old }
         requires idle { IsIdle (at seat.old).caller }
         ensures own { IsSameSeat seat.old seat.new × IsSeatOf self.now result }
-        ensures step { (at seat.new ≡ left_half (at seat.old)) × (at result ≡ right_half (at seat.old)) }
+        ensures step { (at seat.new ≡ left_half (at seat.old))
+            × (at result ≡ right_half (at seat.old)) }
     {
         self.table.shared.split_seat::<Halves>(seat)
     }
@@ -181,7 +199,8 @@ impl<S: SeqStore> LockTable<S> {
         requires own { IsSeatOf self.now seat.old × IsSeatOf self.now other }
         requires idle { IsIdle (at seat.old).caller × IsIdle (at other).caller }
         ensures own { IsSameSeat seat.old seat.new }
-        ensures step { Joined (at seat.old) (at other) (at seat.new) × ((at seat.new).caller.allowance ≤ 2 ^ 62) }
+        ensures step { Joined (at seat.old) (at other) (at seat.new)
+            × ((at seat.new).caller.allowance ≤ 2 ^ 62) }
     {
         self.table.shared.join_seat::<Merges>(seat, other);
         self.table.shared.load::<Hear>(seat, 0);

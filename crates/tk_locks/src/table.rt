@@ -8,6 +8,7 @@ use crate::view::Seen;
 use atomic_table::Table;
 use std::alloc::Global;
 use std::snapshot::Snapshot;
+use std::sync::Mutex;
 use tk_core::Frame;
 use tk_store::SeqStore;
 
@@ -18,12 +19,20 @@ pub struct Origin<S> {
     pub start: Snapshot<Vec<Option<Home<S>>>>,
 }
 
+/// An empty list with room for the stores of any table.
+#[derive(Drop)]
+pub(crate) struct Room<S> {
+    pub(crate) list: Vec<Home<S>>,
+    ghost empty: { list.items ≡ [] },
+    ghost wide: { 64 ≤ vec_capacity list },
+}
+
 /// Locks, one history and stores, for many threads.
 pub struct LockTable<S: SeqStore> {
     pub(crate) table: Table<Option<Home<S>>, Seen, Origin<S>, Law, Global>,
     pub(crate) frame: Frame,
-    /// Room for the stores at the end.
-    pub(crate) room: Vec<Home<S>>,
-    ghost sized: { (table.shared.table_id.words ≡ (frame.stripes + frame.stores) + 1) × (table.shared.table_id.slots ≡ frame.stores) × (table.shared.key.frame ≡ frame) × IsFrame frame },
-    ghost roomy: { (room.items ≡ []) × (frame.stores ≤ vec_capacity room) },
+    pub(crate) room: Mutex<Room<S>>,
+    ghost sized: { (table.shared.table_id.words ≡ (frame.stripes + frame.stores) + 1)
+        × (table.shared.table_id.slots ≡ frame.stores) × (table.shared.key.frame ≡ frame)
+        × IsFrame frame },
 }
