@@ -6,10 +6,10 @@ use Rattle.std.proofs.Math.Seq.{take-add}
 use Rattle.std.specs.Option.{option_map}
 use Rattle.std.specs.Io.{StartsWith}
 use Rattle.tk_disk.specs.Crash.{Torn, Follows, Within, Only, Elapses, LeavesOnly, PastOnly}
-use Rattle.tk_disk.specs.Past.{Past, with_write, settled_on, Writes}
+use Rattle.tk_disk.specs.Past.{Past, with_write, settled_on, Writes, Cuts}
 use Rattle.tk_disk.specs.Disk.{put_at}
 use Rattle.tk_disk.specs.declared.disk.DiskError.{DiskError}
-use Rattle.tk_disk.proofs.Moments.{leaves_weaker}
+use Rattle.tk_disk.proofs.Moments.{leaves_weaker, leaves_joined}
 use Rattle.tk_model.specs.declared.record.Group.{Group}
 use Rattle.tk_block.specs.declared.head.StaticHead.{StaticHead}
 use Rattle.tk_block.specs.declared.closing.Closing.{Closing}
@@ -29,7 +29,7 @@ use Rattle.tk_append.proofs.Windows.{cut}
 use Rattle.tk_append.proofs.Fair.{fair_restores}
 use Rattle.tk_append.proofs.FairPasts.{fair_written, fair_settled}
 use Rattle.tk_append.proofs.PastSteps.{moments_held}
-use Rattle.tk_append.proofs.Nameless.{no_static, none_new, known_more}
+use Rattle.tk_append.proofs.Nameless.{no_static, none_new, none_cut, known_more}
 
 -- a file with zero bytes in front makes no header known
 pub none_settled : (f : List ℕ) (p : Past) (k : StaticHead) → slice_index f 0 ≡ 0 → p ≡ settled_on f → IsKnownHeader p k → ⊥
@@ -152,6 +152,13 @@ module _ (h : StaticHead) (groups : List Group) (count next : ℕ) (before : Pas
     synced_moments (Err e) old mid new bytes is settled only written torn within all stays failed pasts =
         moments_held may_leave past_of moment left_with only_with mid new IsMoment pasts (λ c left. flies old mid bytes is settled only written torn c left)
         (λ c left. subst (λ (p : Past). IsMoment (p, c)) (sym failed) (flies old mid bytes is settled only written torn c (within c left)))
+
+    -- a cut behind what made no header known
+    pub cut_moments : (start mid new : D) (n : ℕ) → before ≡ past_of start → NoNewHeader (past_of start) (past_of mid) → Cuts n (past_of mid) (past_of new) → Passes mid new → Moments start mid → Moments start new
+    cut_moments start mid new n is none cut pasts moments =
+        leaves_joined moment left_with start mid new IsMoment moments
+        (moments_held may_leave past_of moment left_with only_with mid new IsMoment pasts (λ c left k found known. inl (subst (λ (p : Past). IsKnownHeader p k) (sym is) (none k known)))
+        (λ c left k found known. inl (subst (λ (p : Past). IsKnownHeader p k) (sym is) (none k (none_cut n (past_of mid) (past_of new) cut k known)))))
 
 module _ (h : StaticHead) (groups : List Group) (count next : ℕ) where
   -- the static header is written over the zero bytes

@@ -5,6 +5,7 @@ pub mod ClosedFiles
 pub mod DiskChecks
 pub mod Fair
 pub mod FairPasts
+pub mod FreshEnds
 pub mod FreshPasts
 pub mod FreshSteps
 pub mod Fronts

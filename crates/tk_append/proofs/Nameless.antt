@@ -2,7 +2,7 @@
 use Rattle.std.proofs.Common.{◌≡◌, ◌⊎◌, inl, inr, ⊎_elim, ℕ, ◌<◌, ◌++◌, List, [], ◌∷◌, refl, subst, arith}
 use Rattle.std.specs.Prelude.{slice_index, Some}
 use Rattle.tk_disk.specs.Crash.{Elapses}
-use Rattle.tk_disk.specs.Past.{Write, Past, with_write, Writes}
+use Rattle.tk_disk.specs.Past.{Write, Past, with_write, Writes, Cuts}
 use Rattle.tk_block.specs.declared.head.StaticHead.{StaticHead}
 use Rattle.tk_block.specs.Text.{static_at, static_text, static_front}
 use Rattle.tk_block.proofs.Grammar.{static_found, byte_in}
@@ -28,6 +28,11 @@ none_behind at bytes old new behind (inl same) = none_new old new same
 none_behind at bytes old new behind (inr written) = λ k known.
     ⊎_elim (λ there. there) (λ (here : WritesHeader k (record { at = at; bytes = bytes })). absurd (omega (arith, behind, here.0)))
     (known_more old at bytes k (subst (λ (p : Past). IsKnownHeader p k) written known))
+
+-- a cut writes nothing
+pub none_cut : (n : ℕ) (old new : Past) → Cuts n old new → NoNewHeader old new
+none_cut n old new (inl same) = none_new old new same
+none_cut n old new (inr cut) = λ k known. subst (λ (p : Past). IsKnownHeader p k) cut known
 
 module _ {D : Type 0} (past_of : D → Past) (moment : D → ℕ) (left_with : D → ℕ → Past × List ℕ → Type 0) where
   pub nameless_joined : (old mid new : D) → WritesNoHeader past_of moment left_with old mid → WritesNoHeader past_of moment left_with mid new → WritesNoHeader past_of moment left_with old new

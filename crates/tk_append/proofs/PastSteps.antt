@@ -1,5 +1,5 @@
 -- What the pasts were at each moment of a call.
-use Rattle.std.proofs.Common.{◌≡◌, ◌⊎◌, inl, inr, ⊎_elim, ℕ, List, ap, sym, ◌∙◌, subst, arith}
+use Rattle.std.proofs.Common.{◌≡◌, ◌⊎◌, inl, inr, ⊎_elim, ℕ, ◌≤◌, List, ap, sym, ◌∙◌, subst, arith}
 use Rattle.std.specs.Prelude.{Option, Some, None, IfSome}
 use Rattle.std.specs.Option.{option_map}
 use Rattle.tk_disk.specs.Crash.{Elapses, LeavesOnly, PastOnly}
@@ -32,6 +32,11 @@ module _ {D : Type 0} (may_leave : D → List ℕ → Type 0) (past_of : D → P
         each = λ x left. ⊎_elim (λ there. let old_one = only_with old x there in subst (λ (p : Past). P (p, x.1)) (sym old_one.0) (was x.1 old_one.1)) (at_new x) (pasts.nothing_else (moment old) x (omega arith) left);
         before = λ t x le left. ⊎_elim (λ there. inl there) (λ here. inr (at_new x here)) (pasts.nothing_else t x le left);
       }
+
+  -- what held at each moment holds now
+  pub moments_now : ((disk : D) (t : ℕ) (c : List ℕ) → t ≤ moment disk → may_leave disk c → left_with disk t (past_of disk, c))
+      → (old new : D) (P : Past × List ℕ → Type 0) → LeavesOnly moment left_with old new P → (c : List ℕ) → may_leave new c → P (past_of new, c)
+  moments_now counts_with old new P moments c left = moments.each (past_of new, c) (counts_with new (moment old) c moments.later left)
 
 module _ {D : Type 0} (moment : D → ℕ) (left_with : D → ℕ → Past × List ℕ → Type 0) where
   pub past_weaker : (old new : D) (P Q : Past → Type 0) → PastOnly moment left_with old new Q → ((p : Past) → Q p → P p) → PastOnly moment left_with old new P

@@ -50,7 +50,8 @@ fresh_bodies number each [] = []
 fresh_bodies number each (p ∷ ps) = body_of number (Put p) (each || is_nil ps) ∷ fresh_bodies number each ps
 
 -- A moment of the writing, by its past and an image: a header that is known by now was known before, or the whole file
--- stands at the front of the image and nothing else was written since the last hard synchronisation but its header.
+-- stands at the front of the image, and its past is fair: nothing stood or was written but its groups at their places, its
+-- heads and its header.
 abbrev pub IsFreshMoment : StaticHead → List Group → (text : List ℕ) → (before : Past) → Past × List ℕ → Type 0
 IsFreshMoment h groups text before x =
     (k : StaticHead) → static_at x.1 ≡ Some k → IsKnownHeader x.0 k

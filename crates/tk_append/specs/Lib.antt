@@ -4,6 +4,7 @@ pub mod FairPast
 pub mod FileText
 pub mod Counted
 pub mod Fresh
+pub mod FreshLaws
 pub mod Keys
 pub mod Log
 pub mod LogParts

@@ -9,10 +9,10 @@ use Rattle.tk_append.specs.LogParts.{with_closing}
 abbrev pub Settles : (image : Option (List ℕ)) (old new : Past) → Type 0
 Settles image old new = (new ≡ old) ⊎ IfSome image (λ f. new ≡ settled_on f)
 
--- a closing part was written, or written and made durable
+-- as it was, or a closing part was written, or written and made durable
 abbrev pub Marks : Closing → (image : Option (List ℕ)) (old new : Past) → Type 0
 Marks c image old new = Writes 32 (closing_text c) old new ⊎ IfSome image (λ f. new ≡ settled_on (with_closing c f))
 
--- all was made durable, and then a closing part
+-- as it was, or all was made durable, and then a closing part may have been written, and made durable
 abbrev pub Closes : Closing → (image : Option (List ℕ)) (old new : Past) → Type 0
 Closes c image old new = (new ≡ old) ⊎ IfSome image (λ f. Marks c image (settled_on f) new)

@@ -4,7 +4,7 @@ use Rattle.tk_model.specs.declared.record.Change.{Change}
 use Rattle.tk_model.specs.declared.record.Group.{Group}
 use Rattle.tk_block.specs.Text.{head_at, static_at, static_text, base_of}
 use Rattle.tk_block.specs.Blocks.{room_of, body_at, extent_of}
-use Rattle.tk_block.specs.Layout.{Placed, end_of, texts, links_of, bodies_of}
+use Rattle.tk_block.specs.Layout.{Placed, texts, links_of}
 use Rattle.tk_block.specs.declared.block.Body.{Body}
 use Rattle.tk_block.specs.declared.head.StaticHead.{StaticHead}
 use Rattle.tk_append.specs.Opening.{Walk, begin, walked, is_in_turn, change_in}
@@ -53,17 +53,6 @@ restored_groups f = groups_by f (static_at f)
 pub record IsUntornAt (x : Placed) (c : List ℕ) : Type 0 where
   pub head : (e : ℕ) → head_at (drop x.place c) x.place ≡ Some e → e ≡ extent_of x.body
   pub says : (b : Body) → body_at (drop (x.place + 24) c) x.place ≡ Some b → b ≡ x.body
-
-abbrev pub AllUntorn : List Placed → List ℕ → Type 0
-AllUntorn [] c = Unit {0}
-AllUntorn (x ∷ xs) c = IsUntornAt x c × AllUntorn xs c
-
--- An image of a file of these groups is untorn: where a block stood or was written, a head or a body whose check matches
--- is that block's, and where the file ended there is none.
-pub record IsUntorn (h : StaticHead) (groups : List Group) (c : List ℕ) : Type 0 where
-  pub blocks : AllUntorn (blocks_of h groups) c
-  pub no_head : head_at (drop (end_of (base_of h.p) (bodies_of groups)) c) (end_of (base_of h.p) (bodies_of groups)) ≡ None
-  pub no_body : body_at (drop (end_of (base_of h.p) (bodies_of groups) + 24) c) (end_of (base_of h.p) (bodies_of groups)) ≡ None
 
 -- the text of the blocks of groups
 abbrev pub groups_text : StaticHead → List Group → List ℕ

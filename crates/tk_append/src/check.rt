@@ -41,6 +41,7 @@ pub fn length_of<D: Disk>(disk: &mut D) -> Result<u64, OpenError>
     ensures value { IfSome (D.image disk.old) (λ f. IfOk result (λ n. n ≡ length f)) }
     ensures image { D.image disk.new ≡ D.image disk.old }
     ensures outside { IfErr result IsOutside }
+    ensures unmet { IsErrOf result OpenError.NoMemory → ⊥ }
     ensures cause { HasOpenCause (D.fault_count disk.old) (D.fault_count disk.new) result }
     ensures still { OnlyReads D.may_leave D.moment D.left_since D.past D.left_with disk.old disk.new }
 {

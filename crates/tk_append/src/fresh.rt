@@ -1,4 +1,4 @@
-ghost use Rattle.std.specs.Prelude.{◌≡◌, ◌+◌, ◌≤◌, ◌<◌, ◌++◌, ◌^◌, ◌==◌, List, [], length, drop, replicate, true, IfSome, IfOk, OnOk, Some};
+ghost use Rattle.std.specs.Prelude.{◌≡◌, ◌+◌, ◌≤◌, ◌<◌, ◌++◌, ◌^◌, ◌==◌, List, [], length, drop, replicate, true, IfSome, IfOk, OnOk, Some, Err};
 ghost use Rattle.std.specs.Option.{is_some};
 ghost use Rattle.tk_disk.specs.Crash.{Only, LeavesOnly, PastOnly};
 ghost use Rattle.tk_disk.specs.Past.{settled_on};
@@ -83,7 +83,7 @@ fn write_rest<D: Disk>(
     ensures told { is_some (D.image disk.new) ≡ is_some (D.image disk.old) }
     ensures cause { HasFaultCause (D.fault_count disk.old) (D.fault_count disk.new) result }
     ensures no_header { IfSome (D.image disk.old) (λ _.
-        PastOnly D.moment D.left_with disk.old disk.new (NoNewHeader (D.past disk.old))) }
+        WritesNoHeader D.past D.moment D.left_with disk.old disk.new) }
 {
     let each = head.kind == 2;
     let size = write_records(alloc, disk, head.p, number, each, pairs.as_slice())?;
@@ -113,6 +113,9 @@ pub fn write_fresh<D: Disk>(
         D.image disk.new ≡ Some (fresh_text head.now number pairs.now))) }
     ensures durable { OnOk result (IfSome (D.image disk.new) (λ f. Only f (D.may_leave disk.new))) }
     ensures settled { OnOk result (IfSome (D.image disk.new) (λ f. D.past disk.new ≡ settled_on f)) }
+    // after want of memory no header is known that wasn't before
+    ensures no_memory { result ≡ Err DiskError.NoMemory → IfSome (D.image disk.old) (λ _.
+        NoNewHeader (D.past disk.old) (D.past disk.new)) }
     ensures told { is_some (D.image disk.new) ≡ is_some (D.image disk.old) }
     ensures cause { HasFaultCause (D.fault_count disk.old) (D.fault_count disk.new) result }
     ensures pasts { IfSome (D.image disk.old) (λ _. LeavesOnly D.moment D.left_with disk.old disk.new
@@ -122,4 +125,39 @@ pub fn write_fresh<D: Disk>(
     write_rest(alloc, disk, head, number, pairs)?;
     disk.write_at(0, &write_static(head))?;
     disk.sync(true)
+}
+
+/// Writes the whole file of a header and records to an empty disk, as `write_fresh` does. Where memory ran out, the disk
+/// is empty again.
+pub fn write_or_empty<D: Disk>(
+    alloc: Global,
+    disk: &mut D,
+    head: &StaticHead,
+    number: u64,
+    pairs: &PairList,
+) -> Result<(), DiskError>
+    requires head { is_static head.now ≡ true }
+    requires small { AllPairsSmall pairs.now }
+    requires number { number + 1 < 2 ^ 64 }
+    requires end { fresh_size head.now number pairs.now ≤ 2 ^ 40 }
+    requires empty { IfSome (D.image disk.old) (λ f. f ≡ []) }
+    ensures written { OnOk result (IfSome (D.image disk.old) (λ _.
+        D.image disk.new ≡ Some (fresh_text head.now number pairs.now))) }
+    ensures durable { OnOk result (IfSome (D.image disk.new) (λ f. Only f (D.may_leave disk.new))) }
+    ensures settled { OnOk result (IfSome (D.image disk.new) (λ f. D.past disk.new ≡ settled_on f)) }
+    ensures no_memory { result ≡ Err DiskError.NoMemory → D.image disk.new ≡ D.image disk.old }
+    ensures told { is_some (D.image disk.new) ≡ is_some (D.image disk.old) }
+    ensures cause { HasFaultCause (D.fault_count disk.old) (D.fault_count disk.new) result }
+    ensures pasts { IfSome (D.image disk.old) (λ _. LeavesOnly D.moment D.left_with disk.old disk.new
+        (IsFreshMoment head.now (fresh_groups head.now.kind number pairs.now)
+        (fresh_text head.now number pairs.now) (D.past disk.old))) }
+{
+    match write_fresh(alloc, disk, head, number, pairs) {
+        Ok(()) => Ok(()),
+        Err(DiskError::Fault) => Err(DiskError::Fault),
+        Err(DiskError::NoMemory) => {
+            disk.cut(0)?;
+            Err(DiskError::NoMemory)
+        }
+    }
 }

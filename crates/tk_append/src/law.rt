@@ -1,7 +1,8 @@
 //! Laws, as functions that do nothing.
 ghost use Rattle.tk_append.specs.OpeningLaws.{OpensClosed, OpensOnlyClosed};
 ghost use Rattle.tk_append.specs.FairPast.{FairRestores, WholeRestores, FairMore, FairWritten, FairSettled};
-ghost use Rattle.tk_append.specs.RestoringLaws.{ReadsBack, Restores, TornKeeps, FilesKeep, FrontsKept, FilesUntorn};
+ghost use Rattle.tk_append.specs.FreshLaws.{FreshAccepted};
+ghost use Rattle.tk_append.specs.RestoringLaws.{ReadsBack, TornKeeps, FilesKeep, FrontsKept};
 
 /// Openings accept the closed files of groups, and nothing else.
 pub fn closed_files_open()
@@ -9,14 +10,12 @@ pub fn closed_files_open()
     ensures only { OpensOnlyClosed }
 {}
 
-/// Files of groups are read back, and so are the images that a crash leaves of them.
-pub fn images_restore()
+/// Files of groups are read back. They keep their groups, and so does what a write beside these leaves.
+pub fn files_are_read_back()
     ensures whole { ReadsBack }
-    ensures restored { Restores }
     ensures torn { TornKeeps }
     ensures files { FilesKeep }
     ensures fronts { FrontsKept }
-    ensures untorn { FilesUntorn }
 {}
 
 /// Images that are untorn by a fair past are restored, and fair pasts stay so.
@@ -26,4 +25,9 @@ pub fn fair_pasts_restore()
     ensures more { FairMore }
     ensures written { FairWritten }
     ensures settled { FairSettled }
+{}
+
+/// A fresh file in which nothing fails is whole, where its header stood or was written.
+pub fn fresh_files_are_whole()
+    ensures accepted { FreshAccepted }
 {}

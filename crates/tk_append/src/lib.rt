@@ -20,8 +20,8 @@ mod window;
 
 pub use check::length_of;
 pub use extent::extent_of_change;
-pub use fresh::write_fresh;
-pub use law::{closed_files_open, fair_pasts_restore, images_restore};
+pub use fresh::{write_fresh, write_or_empty};
+pub use law::{closed_files_open, fair_pasts_restore, files_are_read_back, fresh_files_are_whole};
 pub use log::GroupLog;
 pub use open::{check_all, open_log};
 pub use read::{CountedLog, read_counted};

@@ -114,6 +114,7 @@ impl<D: Disk> GroupLog<D> {
             → OnOk result (D.image (log_disk self.new) ≡ option_map (λ f. f ++ group_text (record { number = number; changes = changes }) (log_end self.old) links) (D.image (log_disk self.old))) }
         ensures end { (changes : List Change) (links : List ℕ) → IsReservedText self.old changes links
             → OnOk result (log_end self.new ≡ end_of (log_end self.old) (group_bodies number changes)) }
+        ensures err_end { OnErr result (log_end self.new ≡ log_end self.old) }
         ensures stands { (groups : List Group) (changes : List Change) (links : List ℕ) → Stands D.image self.old groups → IsReservedText self.old changes links
             → links ≡ links_of (log_head self.old).p (blocks_of (log_head self.old) groups) (laid (log_end self.old) (group_bodies number changes))
             → OnOk result (Stands D.image self.new (groups ++ record { number = number; changes = changes } ∷ [])) }

@@ -1,6 +1,7 @@
 //! The part of a file that was read and isn't passed yet.
-ghost use Rattle.std.specs.Prelude.{◌≡◌, ◌≤◌, ◌<◌, ◌^◌, ◌+◌, ◌-◌, ℕ, List, [], ◌++◌, length, drop, min, ◌⊎◌, IfErr, IfSome, OnOk};
+ghost use Rattle.std.specs.Prelude.{◌≡◌, ◌≤◌, ◌<◌, ◌^◌, ◌+◌, ◌-◌, ℕ, List, [], ◌++◌, length, drop, min, ◌⊎◌, IfErr, IsErrOf, IfSome, OnOk};
 ghost use Rattle.std.specs.Io.{StartsWith};
+ghost use Rattle.tk_model.specs.declared.error.OpenError.TheVariants as errors;
 ghost use Rattle.tk_model.specs.declared.error.OpenError.TheVariants.{BrokenAt};
 ghost use Rattle.tk_disk.specs.Crash.{OnlyReads};
 ghost use Rattle.tk_append.specs.Read.{IsOutside, HasOpenCause};
@@ -22,6 +23,7 @@ pub fn read_piece<D: Disk>(disk: &mut D, at: u64, into: &mut [u8]) -> Result<(),
     ensures shows { OnOk result (Shows (D.image disk.old) at into.new) }
     ensures outside { IfSome (D.image disk.old) (λ f. at + length into.old ≤ length f → IfErr result IsOutside) }
     ensures short { IfErr result (λ e. IsOutside e ⊎ ((e ≡ BrokenAt 32) × (D.fault_count disk.new ≡ D.fault_count disk.old))) }
+    ensures unmet { IsErrOf result errors.NoMemory → ⊥ }
     ensures image { D.image disk.new ≡ D.image disk.old }
     ensures cause { HasOpenCause (D.fault_count disk.old) (D.fault_count disk.new) result }
     ensures still { OnlyReads D.may_leave D.moment D.left_since D.past D.left_with disk.old disk.new }

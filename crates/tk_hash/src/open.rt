@@ -1,6 +1,6 @@
 ghost use Rattle.std.specs.Prelude.{◌≡◌, ◌+◌, ◌≤◌, ◌<◌, ◌^◌, ◌∷◌, [], ℕ, List, length, replicate, min, true, false, IfOk, IfErr, IsOk, OnOk, IfSome, Some};
 ghost use Rattle.std.specs.Option.{is_some, option_map};
-ghost use Rattle.tk_disk.specs.Crash.{Torn, Only, OnlyReads, LeavesOnly};
+ghost use Rattle.tk_disk.specs.Crash.{Torn, Only, OnlyReads, LeavesOnly, PastOnly};
 ghost use Rattle.tk_disk.specs.Disk.{Rose, HasCause};
 ghost use Rattle.tk_disk.specs.Past.{settled_on};
 ghost use Rattle.tk_model.specs.declared.record.Group.{Group};
@@ -8,13 +8,14 @@ ghost use Rattle.tk_model.specs.declared.error.OpenError.TheVariants as OpenErro
 ghost use Rattle.tk_append.specs.Opening.{first_fault};
 ghost use Rattle.tk_append.specs.Log.{Tells, closed_text};
 ghost use Rattle.tk_append.specs.LogParts.{log_disk, log_head, log_end, with_closing, open_mark};
+ghost use Rattle.tk_append.specs.LogPasts.{Marks};
 ghost use Rattle.tk_append.specs.Read.{IsOutside};
 ghost use Rattle.tk_block.specs.Text.{is_static};
 
 use crate::found::FoundKey;
 use crate::store::HashStore;
 use std::alloc::Global;
-use tk_append::{CountedLog, GroupLog, read_counted, write_fresh};
+use tk_append::{CountedLog, GroupLog, read_counted, write_or_empty};
 use tk_block::{Closing, StaticHead};
 use tk_disk::{Disk, DiskError, zeros};
 use tk_model::{NoMemory, OpenError, PairList, ShardOf, Unopened};
@@ -52,13 +53,10 @@ fn write_empty<D: Disk>(alloc: Global, disk: &mut D, head: &StaticHead) -> Resul
     ensures fault { IfErr result (λ e. e ≡ OpenError.Fault → Rose (D.fault_count disk.old) (D.fault_count disk.new)) }
     ensures later { D.fault_count disk.old ≤ D.fault_count disk.new }
 {
-    match write_fresh(alloc, disk, head, 0, &PairList::new(alloc)) {
+    match write_or_empty(alloc, disk, head, 0, &PairList::new(alloc)) {
         Ok(()) => Ok(()),
         Err(DiskError::Fault) => Err(OpenError::Fault),
-        Err(DiskError::NoMemory) => match disk.cut(0) {
-            Ok(()) => Err(OpenError::NoMemory),
-            Err(_) => Err(OpenError::Fault),
-        },
+        Err(DiskError::NoMemory) => Err(OpenError::NoMemory),
     }
 }
 
@@ -81,6 +79,10 @@ fn begin<D: Disk>(
     ensures done { writable ≡ false → IsOk result }
     ensures durable { writable ≡ true → OnOk result (IfSome (D.image (log_disk log.new)) (λ f. Only f (D.may_leave (log_disk log.new)))) }
     ensures time { LeavesOnly D.moment D.left_since (log_disk log.old) (log_disk log.new) (λ c. (d : List ℕ) × D.may_leave (log_disk log.old) d × Torn 32 32 d c) }
+    ensures past { Marks open_mark (D.image (log_disk log.old))
+        (D.past (log_disk log.old)) (D.past (log_disk log.new)) }
+    ensures pasts { PastOnly D.moment D.left_with (log_disk log.old) (log_disk log.new)
+        (Marks open_mark (D.image (log_disk log.old)) (D.past (log_disk log.old))) }
     ensures settled { writable ≡ true → OnOk result (IfSome (D.image (log_disk log.new)) (λ f. D.past (log_disk log.new) ≡ settled_on f)) }
 {
     if !writable {
@@ -128,6 +130,14 @@ impl<D: Disk> HashStore<D> {
         ensures later { IfErr result (λ u. D.fault_count disk ≤ D.fault_count u.disk) }
         ensures time { IfOk result (λ s. LeavesOnly D.moment D.left_since disk (hash_disk s) (λ c. (d : List ℕ) × D.may_leave disk d × Torn 32 32 d c)) }
         ensures back_time { IfErr result (λ u. LeavesOnly D.moment D.left_since disk u.disk (λ c. (d : List ℕ) × D.may_leave disk d × Torn 32 32 d c)) }
+        ensures past { IfOk result (λ s.
+            Marks open_mark (D.image disk) (D.past disk) (D.past (hash_disk s))) }
+        ensures back_past { IfErr result (λ u.
+            Marks open_mark (D.image disk) (D.past disk) (D.past u.disk)) }
+        ensures pasts { IfOk result (λ s. PastOnly D.moment D.left_with disk (hash_disk s)
+            (Marks open_mark (D.image disk) (D.past disk))) }
+        ensures back_pasts { IfErr result (λ u. PastOnly D.moment D.left_with disk u.disk
+            (Marks open_mark (D.image disk) (D.past disk))) }
     {
         let CountedLog {
             log,
@@ -234,6 +244,14 @@ impl<D: Disk> HashStore<D> {
         ensures later { IfErr result (λ u. D.fault_count (log_disk log) ≤ D.fault_count u.disk) }
         ensures time { IfOk result (λ s. LeavesOnly D.moment D.left_since (log_disk log) (hash_disk s) (λ c. (d : List ℕ) × D.may_leave (log_disk log) d × Torn 32 32 d c)) }
         ensures back_time { IfErr result (λ u. LeavesOnly D.moment D.left_since (log_disk log) u.disk (λ c. (d : List ℕ) × D.may_leave (log_disk log) d × Torn 32 32 d c)) }
+        ensures past { IfOk result (λ s.
+            Marks open_mark (D.image (log_disk log)) (D.past (log_disk log)) (D.past (hash_disk s))) }
+        ensures back_past { IfErr result (λ u.
+            Marks open_mark (D.image (log_disk log)) (D.past (log_disk log)) (D.past u.disk)) }
+        ensures pasts { IfOk result (λ s. PastOnly D.moment D.left_with (log_disk log) (hash_disk s)
+            (Marks open_mark (D.image (log_disk log)) (D.past (log_disk log)))) }
+        ensures back_pasts { IfErr result (λ u. PastOnly D.moment D.left_with (log_disk log) u.disk
+            (Marks open_mark (D.image (log_disk log)) (D.past (log_disk log)))) }
     {
         let mut log = log;
         let count = closing.count;

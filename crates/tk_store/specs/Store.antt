@@ -199,7 +199,7 @@ abbrev pub GivesInto : Option (List ℕ) → (old new : List ℕ) → Option ℕ
 GivesInto None old new answer = (answer ≡ None) × (new ≡ old)
 GivesInto (Some v) old new answer = (answer ≡ Some (length v)) × (new ≡ copied v old)
 
--- records, numbers and closing stay; size, costs, needs and held pages may change
+-- records, the least next number and closing stay; what it was ended with, size, costs, needs and held pages may change
 pub record SameContents (old new : StoreView) : Type 0 where
   pub map : new.map ≡ old.map
   pub floor : new.floor ≡ old.floor

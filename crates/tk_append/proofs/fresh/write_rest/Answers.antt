@@ -5,9 +5,7 @@ use Rattle.tk_block.specs.declared.block.Body.{Body}
 use Rattle.tk_block.specs.Text.{base_of}
 use Rattle.tk_block.specs.Layout.{end_of, laid, heads_text, texts, links_of}
 use Rattle.tk_block.proofs.Grammar.{length-closing_text}
-use Rattle.tk_append.specs.Untorn.{NoNewHeader}
 use Rattle.tk_append.specs.Fresh.{fresh_bodies, fresh_text}
-use Rattle.tk_append.proofs.PastSteps.{past_held, past_then}
 use Rattle.tk_append.proofs.Nameless.{none_behind, nameless_called, nameless_joined}
 use Rattle.tk_append.proofs.FreshSteps.{bodies-fresh, fresh_rest, rest_written}
 use Rattle.tk_append.proofs.FreshPasts.{synced_none}
@@ -22,7 +20,7 @@ pub returns-in_err-write_at-clause-no_header : goal.returns-in_err-write_at-clau
 returns-in_err-write_at-clause-no_header g c =
     let closed = nameless_joined g.D.Disk.past g.D.Disk.moment g.D.Disk.left_with c.args.disk.now c.write_records.new.disk c.write_at.new.self c.write_records.ensures.no_header
     (nameless_called g.D.Disk.may_leave g.D.Disk.past g.D.Disk.moment g.D.Disk.left_with g.met.D.Disk.only_with _ _ c.write_at.ensures.pasts (none_behind 32 _ _ _ (omega arith) c.write_at.ensures.past)) in
-    IfSome_then (g.D.Disk.image c.args.disk.now) c.requires.empty (λ f empty. closed.each)
+    IfSome_then (g.D.Disk.image c.args.disk.now) c.requires.empty (λ f empty. closed)
 
 pub returns-in_err-sync-clause-no_header : goal.returns-in_err-sync-clause-no_header
 returns-in_err-sync-clause-no_header g c =
@@ -43,8 +41,8 @@ returns-in_err-sync-clause-no_header g c =
     let none = synced_none c.sync.result (image c.args.disk.now) (image c.write_at.new.self) _ (g.D.Disk.past c.write_at.new.self) (g.D.Disk.past c.sync.new.self) written (c.sync.ensures.settled refl) c.sync.ensures.unsettled in
     IfSome_then (image c.args.disk.now) none
     (λ f none_more.
-    past_then g.D.Disk.moment g.D.Disk.left_with c.args.disk.now c.write_at.new.self c.sync.new.self (NoNewHeader (g.D.Disk.past c.args.disk.now)) (NoNewHeader (g.D.Disk.past c.write_at.new.self)) closed.each
-    (past_held g.D.Disk.may_leave g.D.Disk.moment g.D.Disk.past g.D.Disk.left_with g.met.D.Disk.only_with _ _ _ c.sync.ensures.pasts (λ k known. known) none_more) (λ p more k known. closed.now k (more k known)))
+    nameless_joined g.D.Disk.past g.D.Disk.moment g.D.Disk.left_with c.args.disk.now c.write_at.new.self c.sync.new.self closed
+    (nameless_called g.D.Disk.may_leave g.D.Disk.past g.D.Disk.moment g.D.Disk.left_with g.met.D.Disk.only_with _ _ c.sync.ensures.pasts none_more))
 
 pub returns-clause-no_header : goal.returns-clause-no_header
 returns-clause-no_header g c =
@@ -65,8 +63,8 @@ returns-clause-no_header g c =
     let none = synced_none c.sync.result (image c.args.disk.now) (image c.write_at.new.self) _ (g.D.Disk.past c.write_at.new.self) (g.D.Disk.past c.sync.new.self) written (c.sync.ensures.settled refl) c.sync.ensures.unsettled in
     IfSome_then (image c.args.disk.now) none
     (λ f none_more.
-    past_then g.D.Disk.moment g.D.Disk.left_with c.args.disk.now c.write_at.new.self c.sync.new.self (NoNewHeader (g.D.Disk.past c.args.disk.now)) (NoNewHeader (g.D.Disk.past c.write_at.new.self)) closed.each
-    (past_held g.D.Disk.may_leave g.D.Disk.moment g.D.Disk.past g.D.Disk.left_with g.met.D.Disk.only_with _ _ _ c.sync.ensures.pasts (λ k known. known) none_more) (λ p more k known. closed.now k (more k known)))
+    nameless_joined g.D.Disk.past g.D.Disk.moment g.D.Disk.left_with c.args.disk.now c.write_at.new.self c.sync.new.self closed
+    (nameless_called g.D.Disk.may_leave g.D.Disk.past g.D.Disk.moment g.D.Disk.left_with g.met.D.Disk.only_with _ _ c.sync.ensures.pasts none_more))
 
 pub returns-clause-written : goal.returns-clause-written
 returns-clause-written g c =
