@@ -3,3 +3,4 @@ pub mod OneRecord
 pub mod Memory
 pub mod MemoryLaws
 pub mod Hashed
+pub mod PairsLeft

@@ -1,11 +1,12 @@
 //! Records in hash order, kept by bucket.
-ghost use Rattle.std.specs.Prelude.{◌≡◌, [], ◌∷◌, ◌++◌, ◌≤◌, ◌<◌, ◌^◌, ◌+◌, ◌↔◌, length, replicate, take, drop, IsTrue, IfOk, OnOk, OnErr, MatchOption, MatchResult};
+ghost use Rattle.std.specs.Prelude.{◌≡◌, [], ◌∷◌, ◌++◌, ◌≤◌, ◌<◌, ◌^◌, ◌+◌, ◌↔◌, length, replicate, take, drop, IsTrue, IfOk, IfNone, IfSome, OnOk, OnErr, MatchOption, MatchResult};
 ghost use Rattle.std.specs.Option.{option_copied};
 ghost use Rattle.tk_model.specs.Hashes.{mix_of, bucket_of};
 ghost use Rattle.tk_model.specs.Places.{StandsAt, StandsNowhere, GoesAt, GoesBefore};
 ghost use Rattle.tk_model.specs.Records.{find, put, without, after_one, first_within, last_within, Rising};
 ghost use Rattle.tk_model.specs.declared.record.Order.TheVariants.{Hash};
 ghost use Rattle.tk_store.specs.Hashed.{joined, start_of, end_of};
+ghost use Rattle.tk_store.specs.PairsLeft.{pairs_left};
 
 use crate::hashed_pair::HashedPair;
 use crate::parting::Parting;
@@ -14,7 +15,8 @@ use std::cmp::Ordering;
 use std::marker::Model;
 use std::mem;
 use tk_model::{
-    Bound, Bytes, Change, ListOf, NoMemory, Order, Pair, PairList, Way, bucket, is_within, mix,
+    Bound, Bytes, Change, ListOf, NoMemory, Order, Pair, PairList, Way, bucket, copy_pair,
+    is_within, mix,
 };
 
 /// The records of a bucket.
@@ -273,6 +275,54 @@ fn last_before<'a>(buckets: &'a [Bucket], end: usize, bound: &Bound) -> Option<&
     None
 }
 
+/// Records in hash order that are not passed yet.
+#[derive(Clone, Copy, Debug)]
+pub struct PairsLeft<'a> {
+    bucket: &'a [HashedPair],
+    behind: &'a [Bucket],
+}
+
+impl<'a> PairsLeft<'a> {
+    /// The first record, and those behind it.
+    pub fn split_first(self) -> Option<(&'a Pair, PairsLeft<'a>)>
+        ensures none { IfNone result (pairs_left self.entry ≡ []) }
+        ensures some { IfSome result (λ r. pairs_left self.entry ≡ r.0.now ∷ pairs_left r.1) }
+    {
+        let PairsLeft {
+            mut bucket,
+            mut behind,
+        } = self;
+        loop {
+            if let Some((first, rest)) = bucket.split_first() {
+                let left = PairsLeft {
+                    bucket: rest,
+                    behind,
+                };
+                return Some((first.pair(), left));
+            }
+            let Some((next, rest)) = behind.split_first() else {
+                return None;
+            };
+            bucket = next.as_slice();
+            behind = rest;
+        }
+    }
+}
+
+/// Puts in copies of records that stand in hash order.
+fn copy_all(left: PairsLeft<'_>, records: &mut HashedRecords) -> Result<(), NoMemory>
+    requires empty { records.old ≡ [] }
+    requires rising { Rising Hash (pairs_left left) }
+    ensures { OnOk result (records.new ≡ pairs_left left.entry) }
+{
+    let mut rest = left;
+    while let Some((pair, behind)) = rest.split_first() {
+        records.put(copy_pair(pair)?)?;
+        rest = behind;
+    }
+    Ok(())
+}
+
 impl HashedRecords {
     /// No records, and `2^p` empty buckets.
     pub fn new(alloc: Global, p: u8) -> Result<HashedRecords, NoMemory>
@@ -387,6 +437,32 @@ impl HashedRecords {
         let narrow = mem::replace(self, wider);
         narrow.in_hash_order();
         fill(self, narrow.into_pairs()?)
+    }
+
+    /// All records, in hash order.
+    pub fn pairs(&self) -> PairsLeft<'_>
+        ensures { pairs_left result ≡ self.now }
+    {
+        PairsLeft {
+            bucket: &[],
+            behind: self.buckets.as_slice(),
+        }
+    }
+
+    /// Goes to eight times as many buckets where there are four records to each. Want of memory leaves the buckets that
+    /// there are.
+    pub fn spread(&mut self) -> Result<(), NoMemory>
+        ensures { self.new ≡ self.old }
+    {
+        let p = self.parting.p;
+        if p > 21 || self.count >> p < 4 {
+            return Ok(());
+        }
+        let mut wider = HashedRecords::new(*self.buckets.allocator(), p + 3)?;
+        self.in_hash_order();
+        copy_all(self.pairs(), &mut wider)?;
+        *self = wider;
+        Ok(())
     }
 
     /// The first record within a bound on the way up.

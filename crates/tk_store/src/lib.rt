@@ -12,7 +12,7 @@ mod run;
 mod store;
 
 pub use error::StoreError;
-pub use hashed::{HashedRecords, end_bucket, first_bucket, number_of_buckets};
+pub use hashed::{HashedRecords, PairsLeft, end_bucket, first_bucket, number_of_buckets};
 pub use limit::is_over;
 pub use run::run_on;
 pub use store::SeqStore;

@@ -1,0 +1,4 @@
+pub mod Undo
+pub mod TinyView
+pub mod Tiny
+pub mod TinyLaws
