@@ -20,7 +20,7 @@ use Rattle.tk_restore.specs.Restoration.{restored_records, restored_head, restor
 
 -- ---- records that are set in their order
 
-after_puts : (xs ys : List Pair) → Rising Hash (xs ++ ys) → after Hash (map Put ys) xs ≡ xs ++ ys
+pub after_puts : (xs ys : List Pair) → Rising Hash (xs ++ ys) → after Hash (map Put ys) xs ≡ xs ++ ys
 after_puts xs [] rising = sym (append-nil xs)
 after_puts xs (p ∷ ys) rising =
     ap (λ (m : List Pair). after Hash (map Put ys) m) (put_next xs ys (xs ++ p ∷ ys) p rising refl)

@@ -46,12 +46,12 @@ records_more t blocks x is =
 
 -- a block that ends its group
 pub knows_ended : (old new : Reading) (w : Walk) (x : Placed) (change : Change) → Knows old w → x.body.last ≡ true → change ≡ change_in x.body
-    → new.records ≡ after_one Hash change (after Hash old.begun old.records) → new.begun ≡ [] → new.before ≡ Some x.body.number → new.open_group ≡ None → Knows new (walked w x)
+    → new.records.live ≡ after_one Hash change (after Hash old.records.begun old.records.live) → new.records.begun ≡ [] → new.before ≡ Some x.body.number → new.open_group ≡ None → Knows new (walked w x)
 knows_ended old new w x change knows last is records begun before open_group = record {
   records =
       records
-      ∙ ap (λ (c : Change). after_one Hash c (after Hash old.begun old.records)) is
-      ∙ ap (λ (l : List Change). after_one Hash (change_in x.body) (after Hash l old.records)) knows.begun
+      ∙ ap (λ (c : Change). after_one Hash c (after Hash old.records.begun old.records.live)) is
+      ∙ ap (λ (l : List Change). after_one Hash (change_in x.body) (after Hash l old.records.live)) knows.begun
       ∙ ap (λ (m : List Pair). after_one Hash (change_in x.body) (after Hash (left_over [] w.blocks) m)) knows.records
       ∙ sym (records_more true w.blocks x last);
   begun = begun ∙ ap (λ (t : Bool). cond t [] (left_over [] w.blocks ++ change_in x.body ∷ [])) (sym last) ∙ sym (left_more [] w.blocks x);
@@ -60,12 +60,12 @@ knows_ended old new w x change knows last is records begun before open_group = r
 }
 
 -- a block that doesn't
-knows_more : (old new : Reading) (w : Walk) (x : Placed) (change : Change) → Knows old w → x.body.last ≡ false → change ≡ change_in x.body → new.begun ≡ old.begun ++ change ∷ [] → new.records ≡ old.records → new.before ≡ old.before
+knows_more : (old new : Reading) (w : Walk) (x : Placed) (change : Change) → Knows old w → x.body.last ≡ false → change ≡ change_in x.body → new.records.begun ≡ old.records.begun ++ change ∷ [] → new.records.live ≡ old.records.live → new.before ≡ old.before
     → new.open_group ≡ option_map as_open (opened_by w.open_group x) → Knows new (walked w x)
 knows_more old new w x change knows more is begun records before open_group = record {
   records = records ∙ knows.records ∙ sym (records_more false w.blocks x more);
   begun =
-      begun ∙ ap (λ (c : Change). old.begun ++ c ∷ []) is ∙ ap (λ (l : List Change). l ++ change_in x.body ∷ []) knows.begun
+      begun ∙ ap (λ (c : Change). old.records.begun ++ c ∷ []) is ∙ ap (λ (l : List Change). l ++ change_in x.body ∷ []) knows.begun
       ∙ ap (λ (t : Bool). cond t [] (left_over [] w.blocks ++ change_in x.body ∷ [])) (sym more)
       ∙ sym (left_more [] w.blocks x);
   least = rw (more, before) knows.least;
@@ -73,13 +73,13 @@ knows_more old new w x change knows more is begun records before open_group = re
 }
 
 -- the first block of a group
-pub knows_first : (old new : Reading) (w : Walk) (x : Placed) (change : Change) → Knows old w → x.body.last ≡ false → change ≡ change_in x.body → new.begun ≡ old.begun ++ change ∷ [] → new.records ≡ old.records → new.before ≡ old.before
+pub knows_first : (old new : Reading) (w : Walk) (x : Placed) (change : Change) → Knows old w → x.body.last ≡ false → change ≡ change_in x.body → new.records.begun ≡ old.records.begun ++ change ∷ [] → new.records.live ≡ old.records.live → new.before ≡ old.before
     → is_some old.open_group ≡ false → new.open_group ≡ Some (as_open x) → Knows new (walked w x)
 knows_first old new w x change knows more is begun records before none open_group =
     knows_more old new w x change knows more is begun records before (open_group ∙ opened_first w.open_group x more (ap is_some (sym knows.open_group) ∙ none))
 
 -- another block of a group
-pub knows_on : (old new : Reading) (w : Walk) (x : Placed) (change : Change) → Knows old w → x.body.last ≡ false → change ≡ change_in x.body → new.begun ≡ old.begun ++ change ∷ [] → new.records ≡ old.records → new.before ≡ old.before
+pub knows_on : (old new : Reading) (w : Walk) (x : Placed) (change : Change) → Knows old w → x.body.last ≡ false → change ≡ change_in x.body → new.records.begun ≡ old.records.begun ++ change ∷ [] → new.records.live ≡ old.records.live → new.before ≡ old.before
     → is_some old.open_group ≡ true → new.open_group ≡ old.open_group → Knows new (walked w x)
 knows_on old new w x change knows more is begun records before some open_group =
     knows_more old new w x change knows more is begun records before (open_group ∙ knows.open_group ∙ opened_on w.open_group x more (ap is_some (sym knows.open_group) ∙ some))

@@ -1,3 +1,4 @@
+pub mod Entries
 pub mod Fresh
 pub mod Halves
 pub mod Headers
@@ -5,6 +6,6 @@ pub mod Held
 pub mod Knowing
 pub mod Placing
 pub mod Sizes
-pub mod Settings
 pub mod Steps
+pub mod Upto
 pub mod Whole

@@ -17,7 +17,7 @@ put_first : (new : Pair) (m : List Pair) → AllBehind Hash new.key m → put Ha
 put_first new [] behind = refl
 put_first new (p ∷ m) behind = ap (λ c. put_by c new p m (put Hash new m)) behind.0
 
-without_past : (k : List ℕ) (xs ys : List Pair) → AllBefore k xs → without k (xs ++ ys) ≡ xs ++ without k ys
+pub without_past : (k : List ℕ) (xs ys : List Pair) → AllBefore k xs → without k (xs ++ ys) ≡ xs ++ without k ys
 without_past k [] ys before = refl
 without_past k (p ∷ xs) ys before =
     rw (apart_greater Hash k p.key (flipped Hash p.key k Less before.0)) (ap (λ m. p ∷ m) (without_past k xs ys before.1))

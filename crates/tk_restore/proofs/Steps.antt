@@ -25,7 +25,7 @@ use Rattle.tk_append.proofs.Windows.{cut, shows_rest, shows_none}
 use Rattle.tk_append.proofs.BlockFronts.{body_more, body_front, head_more}
 use Rattle.tk_append.proofs.Restoring.{block_on, nothing_read}
 use Rattle.tk_append.proofs.Rereading.{none_read, refused, extent_some, value_small}
-use Rattle.tk_restore.specs.Readings.{Knows, IsHeld, IsRead, NotRead, IsEnough, HoldsBlock, ReadUpto, Scanned}
+use Rattle.tk_restore.specs.Readings.{Knows, IsRead, NotRead, IsEnough, HoldsBlock, ReadUpto, Scanned}
 use Rattle.tk_restore.specs.declared.reading.Reading.{Reading}
 
 -- ---- the bytes of a window, and all that follow
@@ -166,7 +166,7 @@ upto_first h f place reading is knows = record {
   rest = ap (λ (k : ℕ). (read_on (length f) begin k (drop k f)).blocks) is;
 }
 
-pub upto_end : (h : StaticHead) (f : List ℕ) (place : ℕ) (reading : Reading) → ReadUpto h f place reading → length f ≤ place → reading.records ≡ replay Hash (groups_in h f) []
+pub upto_end : (h : StaticHead) (f : List ℕ) (place : ℕ) (reading : Reading) → ReadUpto h f place reading → length f ≤ place → reading.records.live ≡ replay Hash (groups_in h f) []
 unfolding groups_in
 upto_end h f place reading upto past =
     upto.knows.records
@@ -208,19 +208,17 @@ at_end size P below = absurd (omega (arith, below))
 
 pub scan_headless : (image : Option (List ℕ)) (h : StaticHead) (size place left : ℕ) (old new : List ℕ) (reading : Reading) → place < size → left ≡ size - place → Holding image place left old new None → Scanned image h size place old reading
     → Scanned image h size size new reading
-scan_headless None h size place left old new reading here is holds s = record { small = s.small; held = at_end size _; upto = tt; shows = tt }
+scan_headless None h size place left old new reading here is holds s = record { held = at_end size _; upto = tt; shows = tt }
 scan_headless (Some f) h size place left old new reading here is holds s = record {
-  small = s.small;
   held = at_end size _;
   upto = λ long. ends_headless h f place size reading here long (holds (omega (arith, long, is, here)) (s.shows long here)).head (s.upto long);
   shows = λ long. at_end size _;
 }
 
 pub scan_unread : (image : Option (List ℕ)) (h : StaticHead) (size place left e : ℕ) (old bytes : List ℕ) (reading new : Reading) → place < size → left ≡ size - place → Holding image place left old bytes (Some e)
-    → ((w : Walk) → Knows reading w → NotRead w place e bytes × Knows new w) → IsHeld new → Scanned image h size place old reading → Scanned image h size size bytes new
-scan_unread None h size place left e old bytes reading new here is holds read small s = record { small = small; held = at_end size _; upto = tt; shows = tt }
-scan_unread (Some f) h size place left e old bytes reading new here is holds read small s = record {
-  small = small;
+    → ((w : Walk) → Knows reading w → NotRead w place e bytes × Knows new w) → Scanned image h size place old reading → Scanned image h size size bytes new
+scan_unread None h size place left e old bytes reading new here is holds read s = record { held = at_end size _; upto = tt; shows = tt }
+scan_unread (Some f) h size place left e old bytes reading new here is holds read s = record {
   held = at_end size _;
   upto = λ long.
       let whole : length f ≡ place + left = omega (arith, long, is, here) in
@@ -240,10 +238,9 @@ upto_read h f size place left e next old bytes reading new here is holds read en
     goes_on h f place left next e bytes reading new (omega (arith, is, here)) whole block.starts block.head block.enough end upto (read upto.w upto.knows)
 
 pub scan_last : (image : Option (List ℕ)) (h : StaticHead) (size place left e : ℕ) (old bytes : List ℕ) (reading new : Reading) → place < size → left ≡ size - place → Holding image place left old bytes (Some e)
-    → ((w : Walk) → Knows reading w → IsRead w place e bytes new) → left ≤ e → IsHeld new → Scanned image h size place old reading → Scanned image h size size bytes new
-scan_last None h size place left e old bytes reading new here is holds read past small s = record { small = small; held = at_end size _; upto = tt; shows = tt }
-scan_last (Some f) h size place left e old bytes reading new here is holds read past small s = record {
-  small = small;
+    → ((w : Walk) → Knows reading w → IsRead w place e bytes new) → left ≤ e → Scanned image h size place old reading → Scanned image h size size bytes new
+scan_last None h size place left e old bytes reading new here is holds read past s = record { held = at_end size _; upto = tt; shows = tt }
+scan_last (Some f) h size place left e old bytes reading new here is holds read past s = record {
   held = at_end size _;
   upto = upto_read h f size place left e size old bytes reading new here is holds read (omega (arith, here, is, past)) s;
   shows = λ long. at_end size _;
@@ -258,30 +255,27 @@ passed_shown image place e n bytes rest is passed shown = elim (cases_lt (length
 ]
 
 pub scan_next : (image : Option (List ℕ)) (h : StaticHead) (size place left e n : ℕ) (old bytes rest : List ℕ) (reading new : Reading) → place < size → left ≡ size - place → Holding image place left old bytes (Some e) → length bytes ≤ left
-    → ((w : Walk) → Knows reading w → IsRead w place e bytes new) → e < left → n ≡ min (length bytes) e → rest ≡ drop n bytes → IsHeld new → Scanned image h size place old reading → Scanned image h size (place + e) rest new
-scan_next None h size place left e n old bytes rest reading new here is holds fits read below count passed small s = record {
-  small = small;
+    → ((w : Walk) → Knows reading w → IsRead w place e bytes new) → e < left → n ≡ min (length bytes) e → rest ≡ drop n bytes → Scanned image h size place old reading → Scanned image h size (place + e) rest new
+scan_next None h size place left e n old bytes rest reading new here is holds fits read below count passed s = record {
   held = λ within. omega (arith, is, fits, below, count, ap length passed, length-drop n bytes);
   upto = tt;
   shows = tt;
 }
-scan_next (Some f) h size place left e n old bytes rest reading new here is holds fits read below count passed small s = record {
-  small = small;
+scan_next (Some f) h size place left e n old bytes rest reading new here is holds fits read below count passed s = record {
   held = λ within. omega (arith, is, fits, below, count, ap length passed, length-drop n bytes);
   upto = upto_read h f size place left e (place + e) old bytes reading new here is holds read (omega (arith, below)) s;
   shows = λ long within. passed_shown (Some f) place e n bytes rest count passed (holds (omega (arith, long, is, here)) (s.shows long here)).starts;
 }
 
-pub scan_first : (image : Option (List ℕ)) (h : StaticHead) (size place : ℕ) (bytes : List ℕ) (reading : Reading) → place ≡ base_of h.p → bytes ≡ [] → Knows reading begin → IsHeld reading → Scanned image h size place bytes reading
-scan_first None h size place bytes reading is none knows small = record { small = small; held = λ below. omega (arith, below, ap length none); upto = tt; shows = tt }
-scan_first (Some f) h size place bytes reading is none knows small = record {
-  small = small;
+pub scan_first : (image : Option (List ℕ)) (h : StaticHead) (size place : ℕ) (bytes : List ℕ) (reading : Reading) → place ≡ base_of h.p → bytes ≡ [] → Knows reading begin → Scanned image h size place bytes reading
+scan_first None h size place bytes reading is none knows = record { held = λ below. omega (arith, below, ap length none); upto = tt; shows = tt }
+scan_first (Some f) h size place bytes reading is none knows = record {
   held = λ below. omega (arith, below, ap length none);
   upto = λ long. upto_first h f place reading is knows;
   shows = λ long below. subst (λ (l : List ℕ). StartsWith (drop place f) l) (sym none) refl;
 }
 
 pub scan_end : (image : Option (List ℕ)) (h : StaticHead) (size place : ℕ) (bytes : List ℕ) (reading : Reading) (pairs : List Pair) → Scanned image h size place bytes reading → size ≤ place → IfSome image (λ f. size ≡ length f)
-    → pairs ≡ reading.records → IfSome image (λ f. pairs ≡ replay Hash (groups_in h f) [])
+    → pairs ≡ reading.records.live → IfSome image (λ f. pairs ≡ replay Hash (groups_in h f) [])
 scan_end None h size place bytes reading pairs s past long is = tt
 scan_end (Some f) h size place bytes reading pairs s past long is = is ∙ upto_end h f place reading (s.upto (sym long)) (omega (arith, past, long))

@@ -124,7 +124,7 @@ kind_asked : (h : StaticHead) → (h.kind ≡ 1) ⊎ (h.kind ≡ 3) → list_any
 kind_asked h (inl one) = ap (λ (n : ℕ). list_any (λ k. k == n) (1 ∷ 3 ∷ [])) one
 kind_asked h (inr three) = ap (λ (n : ℕ). list_any (λ k. k == n) (1 ∷ 3 ∷ [])) three
 
-file_length : (h : StaticHead) (f : List ℕ) → length (restored_file h f) ≡ end_of (base_of h.p) (bodies_of (together 0 (restored_records f)))
+pub file_length : (h : StaticHead) (f : List ℕ) → length (restored_file h f) ≡ end_of (base_of h.p) (bodies_of (together 0 (restored_records f)))
 file_length h f = length-file_text (restored_head h) (together 0 (restored_records f)) _ (fresh_next 0 (restored_records f))
 
 may_open : (image file : List ℕ) (count : ℕ) (writable : Bool) → IsAppending image → length file ≤ 2 ^ 40 → (r : IsRestoredFrom image file count)

@@ -1,5 +1,6 @@
 pub mod Causes
+pub mod Changes
 pub mod Reading
 pub mod Readings
 pub mod Restoration
-pub mod Settings
+pub mod Rising

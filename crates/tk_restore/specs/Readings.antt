@@ -6,8 +6,7 @@ use Rattle.tk_model.specs.Records.{replay}
 use Rattle.tk_block.specs.declared.block.Body.{Body}
 use Rattle.tk_block.specs.declared.head.StaticHead.{StaticHead}
 use Rattle.tk_block.specs.Text.{head_at}
-use Rattle.tk_block.specs.Blocks.{AllSmall, body_at}
-use Rattle.tk_append.specs.Fresh.{AllPairsSmall}
+use Rattle.tk_block.specs.Blocks.{body_at}
 use Rattle.tk_append.specs.Opening.{Walk, walked}
 use Rattle.tk_append.specs.Walked.{least_behind, as_open}
 use Rattle.tk_append.specs.Reread.{left_over}
@@ -16,15 +15,14 @@ use Rattle.tk_restore.specs.declared.reading.Reading.{Reading}
 
 -- the reading knows what this walk over blocks says
 pub record Knows (reading : Reading) (w : Walk) : Type 0 where
-  pub records : reading.records ≡ replay Hash (complete_groups [] w.blocks) []
-  pub begun : reading.begun ≡ left_over [] w.blocks
+  pub records : reading.records.live ≡ replay Hash (complete_groups [] w.blocks) []
+  pub begun : reading.records.begun ≡ left_over [] w.blocks
   pub least : w.least ≡ least_behind reading.before
   pub open_group : reading.open_group ≡ option_map as_open w.open_group
 
--- its records and changes are within the limits of a block
-pub record IsHeld (reading : Reading) : Type 0 where
-  pub records : AllPairsSmall reading.records
-  pub begun : AllSmall reading.begun
+-- a set, a remove, or the last of its group
+abbrev pub MayEnd : Body → Type 0
+MayEnd b = ((b.kind ≡ 1) ⊎ (b.kind ≡ 2)) ⊎ (b.last ≡ true)
 
 -- a block of this extent was read
 pub record IsRead (w : Walk) (place extent : ℕ) (bytes : List ℕ) (reading : Reading) : Type 0 where
@@ -61,7 +59,6 @@ pub record ReadUpto (h : StaticHead) (f : List ℕ) (place : ℕ) (reading : Rea
 
 -- how far a reading has come on a disk, where the disk tells its bytes, and that the window shows what stands there
 pub record Scanned (image : Option (List ℕ)) (h : StaticHead) (size place : ℕ) (bytes : List ℕ) (reading : Reading) : Type 0 where
-  pub small : IsHeld reading
   pub held : place < size → place + length bytes ≤ size
   pub upto : IfSome image (λ f. length f ≡ size → ReadUpto h f place reading)
   pub shows : IfSome image (λ f. length f ≡ size → place < size → StartsWith (drop place f) bytes)

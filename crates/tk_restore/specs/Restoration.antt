@@ -1,5 +1,7 @@
 -- To what the image that a crash left of a file of groups is restored.
 use Rattle.std.specs.Prelude.{◌≡◌, ◌⊎◌, ℕ, ◌^◌, ◌≤◌, nat_lt, Bool, List, [], ◌∷◌, length, Option, Some, None, IfSome, if◌then◌else◌}
+use Rattle.std.specs.Io.{StartsWith}
+use Rattle.tk_disk.specs.Past.{Past}
 use Rattle.tk_model.specs.declared.record.Pair.{Pair}
 use Rattle.tk_model.specs.declared.record.ShardOf.{ShardOf}
 use Rattle.tk_model.specs.declared.record.Order.TheVariants.{Hash}
@@ -13,6 +15,7 @@ use Rattle.tk_append.specs.Fresh.{together, fresh_next}
 use Rattle.tk_append.specs.Log.{closed_text}
 use Rattle.tk_append.specs.Opening.{first_fault}
 use Rattle.tk_append.specs.Restored.{restored_groups}
+use Rattle.tk_append.specs.Untorn.{IsKnownHeader}
 
 -- the records that the image's restored groups leave, in hash order
 abbrev pub restored_records : (image : List ℕ) → List Pair
@@ -36,6 +39,18 @@ pub record IsRestoredFrom (image file : List ℕ) (count : ℕ) : Type 0 where
   pub was : static_at image ≡ Some head
   pub is : file ≡ restored_file head image
   pub counted : count ≡ length (restored_records image)
+
+-- the file to which an image is restored stands at the front
+pub record BeginsRestored (image c : List ℕ) : Type 0 where
+  pub head : StaticHead
+  pub was : static_at image ≡ Some head
+  pub starts : StartsWith c (restored_file head image)
+
+-- A moment of the writing, by its past and what a crash leaves: a header that is known by then was known before, or the
+-- whole restored file stands there.
+abbrev pub IsRestoringMoment : (image : List ℕ) (before : Past) → Past × List ℕ → Type 0
+IsRestoringMoment image before x =
+    (k : StaticHead) → static_at x.1 ≡ Some k → IsKnownHeader x.0 k → IsKnownHeader before k ⊎ BeginsRestored image x.1
 
 -- a file of groups: its kind is no updating one
 abbrev pub IsAppending : List ℕ → Type 0

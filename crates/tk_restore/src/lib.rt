@@ -1,10 +1,12 @@
 //! Files that a crash left, restored.
 #![tactic(auto)]
 
+mod changes;
 mod law;
 mod reading;
 mod records;
 mod restore;
+mod rising;
 mod scan;
 #[cfg(test)]
 mod tests;

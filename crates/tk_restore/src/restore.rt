@@ -1,13 +1,13 @@
 ghost use Rattle.std.specs.Prelude.{◌≡◌, ◌≤◌, ◌^◌, ℕ, List, [], nat_le, true, IfOk, IfErr, IfSome, IsSomeAnd, OnOk, Err, Some};
 ghost use Rattle.std.specs.Option.{is_some};
 ghost use Rattle.tk_model.specs.declared.error.OpenError.TheVariants as errors;
-ghost use Rattle.tk_disk.specs.Crash.{OnlyReads, Only};
+ghost use Rattle.tk_disk.specs.Crash.{OnlyReads, Only, LeavesOnly};
 ghost use Rattle.tk_block.specs.Text.{is_static};
-ghost use Rattle.tk_append.specs.Fresh.{AllPairsSmall, fresh_size, fresh_text};
+ghost use Rattle.tk_append.specs.Fresh.{AllPairsSmall, IsFreshMoment, fresh_groups, fresh_size, fresh_text};
 ghost use Rattle.tk_append.specs.Read.{IsOutside, HasOpenCause, TellsResult};
 ghost use Rattle.tk_restore.specs.Causes.{HasEitherCause};
 ghost use Rattle.tk_restore.specs.Reading.{IsFit, IsReadFrom};
-ghost use Rattle.tk_restore.specs.Restoration.{IsAppending, IsRestoredFrom, OnRefusal, refusal};
+ghost use Rattle.tk_restore.specs.Restoration.{IsAppending, IsRestoredFrom, IsRestoringMoment, OnRefusal, refusal};
 
 use crate::scan::{read_header, read_records};
 use std::alloc::Global;
@@ -50,6 +50,10 @@ fn write_file<D: Disk>(
         (IfSome (D.image disk.old) (λ _.
         D.image disk.new ≡ Some (fresh_text head.now 0 pairs.now))) }
     ensures durable { OnOk result (IfSome (D.image disk.new) (λ f. Only f (D.may_leave disk.new))) }
+    ensures pasts { OnOk result (IfSome (D.image disk.old) (λ _.
+        LeavesOnly D.moment D.left_with disk.old disk.new
+        (IsFreshMoment head.now (fresh_groups head.now.kind 0 pairs.now)
+        (fresh_text head.now 0 pairs.now) (D.past disk.old)))) }
     ensures no_memory { result ≡ Err errors.NoMemory → D.image disk.new ≡ D.image disk.old }
     ensures outside { IfErr result IsOutside }
     ensures told { is_some (D.image disk.new) ≡ is_some (D.image disk.old) }
@@ -114,6 +118,10 @@ pub fn write_restoration<D: Disk>(
         → IfSome (D.image to.old) (λ _.
         IfOk result (λ n. IsSomeAnd (D.image to.new) (λ file. IsRestoredFrom image file n))) }
     ensures durable { OnOk result (IfSome (D.image to.new) (λ f. Only f (D.may_leave to.new))) }
+    // what a crash leaves while it is written
+    ensures pasts { (image : List ℕ) → IsReadFrom image restoration.now
+        → OnOk result (IfSome (D.image to.old) (λ _.
+        LeavesOnly D.moment D.left_with to.old to.new (IsRestoringMoment image (D.past to.old)))) }
     // the disk
     ensures no_memory { result ≡ Err errors.NoMemory → D.image to.new ≡ D.image to.old }
     ensures outside { IfErr result IsOutside }
@@ -133,6 +141,10 @@ pub fn restore_appending<D: Disk>(alloc: Global, from: &mut D, to: &mut D) -> Re
     ensures restored { IfSome (D.image from.old) (λ image. IfSome (D.image to.old) (λ _.
         IfOk result (λ n. IsSomeAnd (D.image to.new) (λ file. IsRestoredFrom image file n)))) }
     ensures durable { OnOk result (IfSome (D.image to.new) (λ f. Only f (D.may_leave to.new))) }
+    // what a crash leaves while it is written
+    ensures pasts { IfSome (D.image from.old) (λ image. OnOk result (IfSome (D.image to.old) (λ _.
+        LeavesOnly D.moment D.left_with to.old to.new
+        (IsRestoringMoment image (D.past to.old))))) }
     // what is refused
     ensures exact { IfSome (D.image from.old) (λ image. TellsResult result (refusal image)) }
     ensures untouched { IfErr result (λ e. OnRefusal e (to.new ≡ to.old)) }

@@ -11,7 +11,7 @@ ghost use Rattle.tk_append.specs.Read.{IsOutside, HasOpenCause};
 ghost use Rattle.tk_append.specs.Restored.{groups_in};
 ghost use Rattle.tk_append.specs.Walked.{Shows};
 ghost use Rattle.tk_append.specs.Windows.{items};
-ghost use Rattle.tk_restore.specs.Readings.{IsHeld, HoldsBlock, Scanned};
+ghost use Rattle.tk_restore.specs.Readings.{HoldsBlock, Scanned};
 
 use crate::reading::Reading;
 use std::alloc::Global;
@@ -106,7 +106,6 @@ fn hold_block<D: Disk>(
 
 /// Reads the block at a place, and answers where the next may stand: at the end where none is read.
 fn step<D: Disk>(
-    alloc: Global,
     disk: &mut D,
     window: &mut Window,
     reading: &mut Reading,
@@ -115,7 +114,6 @@ fn step<D: Disk>(
 ) -> Result<u64, OpenError>
     requires here { place < size }
     requires held { place + length (items window.old) ≤ size }
-    requires small { IsHeld reading.old }
     ensures scanned { (h : Head)
         → Scanned (D.image disk.old) h size place (items window.old) reading.old
         → IfOk result (λ next. Scanned (D.image disk.old) h size next (items window.new)
@@ -131,7 +129,7 @@ fn step<D: Disk>(
     let Some(extent) = hold_block(disk, window, place, left)? else {
         return Ok(size);
     };
-    if !reading.read(alloc, place, extent, window.as_slice())? {
+    if !reading.read(place, extent, window.as_slice())? {
         return Ok(size);
     }
     if extent >= left {
@@ -159,11 +157,11 @@ pub(crate) fn read_records<D: Disk>(
         disk.new }
 {
     let size = length_of(disk)?;
-    let mut reading = Reading::new(alloc)?;
+    let mut reading = Reading::new(alloc);
     let mut window = Window::new(alloc);
     let mut place = base_of(head.p);
     while place < size {
-        place = step(alloc, disk, &mut window, &mut reading, place, size)?;
+        place = step(disk, &mut window, &mut reading, place, size)?;
     }
     Ok(reading.into_pairs()?)
 }

@@ -10,3 +10,6 @@ returns-clause-exact g c = IfSome_then (g.D.Disk.image c.args.from.now) c.in_ok-
 
 pub returns-clause-untouched : goal.returns-clause-untouched
 returns-clause-untouched g c = outside_unrefused c.write_restoration.result _ c.write_restoration.ensures.outside
+
+pub returns-clause-pasts : goal.returns-clause-pasts
+returns-clause-pasts g c = IfSome_then (g.D.Disk.image c.args.from.now) c.in_ok-restoration.ensures.read (λ image read. c.write_restoration.ensures.pasts image read)

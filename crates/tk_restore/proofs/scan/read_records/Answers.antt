@@ -8,7 +8,7 @@ use Rattle.tk_restore.proofs.scan.read_records.Goals as goal
 
 pub loop-place-init : goal.loop-place-init
 loop-place-init g c = record {
-  scanned = scan_first (g.D.Disk.image c.args.disk.now) c.args.head.now c.in_ok-size.size c.base_of-place.result (items c.new-window.result) c.in_ok-reading.reading c.base_of-place.ensures c.new-window.ensures c.in_ok-reading.ensures.knows c.in_ok-reading.ensures.held;
+  scanned = scan_first (g.D.Disk.image c.args.disk.now) c.args.head.now c.in_ok-size.size c.base_of-place.result (items c.new-window.result) c.new-reading.result c.base_of-place.ensures c.new-window.ensures c.new-reading.ensures;
   image = c.in_ok-size.ensures.image;
   count = c.in_ok-size.ensures.cause.kept;
   still = c.in_ok-size.ensures.still;
@@ -35,4 +35,4 @@ loop-place-preserved g c =
 
 pub returns-clause-records : goal.returns-clause-records
 returns-clause-records g c =
-    scan_end (g.D.Disk.image c.args.disk.now) c.args.head.now c.in_ok-size.size c.loop-place.place (items c.loop-place.window) c.loop-place.reading c.in_ok-into_pairs.field-0 c.loop-place.invariant.scanned c.loop-place-test.false c.in_ok-size.ensures.value c.in_ok-into_pairs.ensures
+    scan_end (g.D.Disk.image c.args.disk.now) c.args.head.now c.in_ok-size.size c.loop-place.place (items c.loop-place.window) c.loop-place.reading c.in_ok-into_pairs.field-0 c.loop-place.invariant.scanned c.loop-place-test.false c.in_ok-size.ensures.value c.in_ok-into_pairs.ensures.records

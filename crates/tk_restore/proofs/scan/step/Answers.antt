@@ -24,9 +24,9 @@ returns-then-not-branch-clause-scanned g c h s =
     let extent = c.in-Some.extent in
     let read : (w : Walk) → Knows c.args.reading.now w → NotRead w c.args.place extent new × Knows c.read.new.self w = λ w knows.
     subst (λ (t : Bool). ReadOrNot t w c.args.place extent new c.read.new.self) c.if-not-branch.true
-    (subst (λ (l : List ℕ). ReadOrNot c.in_ok-read.field-0 w c.args.place extent l c.read.new.self) c.as_slice.ensures (c.in_ok-read.ensures.read w knows)) in
+    (subst (λ (l : List ℕ). ReadOrNot c.in_ok-read.field-0 w c.args.place extent l c.read.new.self) c.as_slice.ensures (c.in_ok-read.ensures w knows)) in
     scan_unread image h c.args.size c.args.place left extent old new c.args.reading.now c.read.new.self c.requires.here refl
-    (subst (λ (o : Option ℕ). Holding image c.args.place left old new o) c.in-Some.is c.in_ok-extent.ensures.holds) read c.in_ok-read.ensures.held s
+    (subst (λ (o : Option ℕ). Holding image c.args.place left old new o) c.in-Some.is c.in_ok-extent.ensures.holds) read s
 
 pub returns-then-extent-left-clause-scanned : goal.returns-then-extent-left-clause-scanned
 returns-then-extent-left-clause-scanned g c h s =
@@ -37,9 +37,9 @@ returns-then-extent-left-clause-scanned g c h s =
     let extent = c.in-Some.extent in
     let read : (w : Walk) → Knows c.args.reading.now w → IsRead w c.args.place extent new c.read.new.self = λ w knows.
     subst (λ (t : Bool). ReadOrNot t w c.args.place extent new c.read.new.self) c.if-not-branch.false
-    (subst (λ (l : List ℕ). ReadOrNot c.in_ok-read.field-0 w c.args.place extent l c.read.new.self) c.as_slice.ensures (c.in_ok-read.ensures.read w knows)) in
+    (subst (λ (l : List ℕ). ReadOrNot c.in_ok-read.field-0 w c.args.place extent l c.read.new.self) c.as_slice.ensures (c.in_ok-read.ensures w knows)) in
     scan_last image h c.args.size c.args.place left extent old new c.args.reading.now c.read.new.self c.requires.here refl
-    (subst (λ (o : Option ℕ). Holding image c.args.place left old new o) c.in-Some.is c.in_ok-extent.ensures.holds) read c.if-extent-left.true c.in_ok-read.ensures.held s
+    (subst (λ (o : Option ℕ). Holding image c.args.place left old new o) c.in-Some.is c.in_ok-extent.ensures.holds) read c.if-extent-left.true s
 
 pub returns-clause-scanned : goal.returns-clause-scanned
 returns-clause-scanned g c h s =
@@ -50,8 +50,8 @@ returns-clause-scanned g c h s =
     let extent = c.in-Some.extent in
     let read : (w : Walk) → Knows c.args.reading.now w → IsRead w c.args.place extent new c.read.new.self = λ w knows.
     subst (λ (t : Bool). ReadOrNot t w c.args.place extent new c.read.new.self) c.if-not-branch.false
-    (subst (λ (l : List ℕ). ReadOrNot c.in_ok-read.field-0 w c.args.place extent l c.read.new.self) c.as_slice.ensures (c.in_ok-read.ensures.read w knows)) in
+    (subst (λ (l : List ℕ). ReadOrNot c.in_ok-read.field-0 w c.args.place extent l c.read.new.self) c.as_slice.ensures (c.in_ok-read.ensures w knows)) in
     let fits : length new ≤ left = subst (λ (o : Option ℕ). IfSome o (λ _. length new ≤ left)) c.in-Some.is c.in_ok-extent.ensures.held in
     scan_next image h c.args.size c.args.place left extent c.min.result old new (items c.pass.new.self) c.args.reading.now c.read.new.self c.requires.here refl
     (subst (λ (o : Option ℕ). Holding image c.args.place left old new o) c.in-Some.is c.in_ok-extent.ensures.holds) fits read c.if-extent-left.false
-    (c.min.ensures ∙ ap (λ (l : List ℕ). min (length l) extent) c.as_slice-held.ensures) c.pass.ensures c.in_ok-read.ensures.held s
+    (c.min.ensures ∙ ap (λ (l : List ℕ). min (length l) extent) c.as_slice-held.ensures) c.pass.ensures s

@@ -5,7 +5,7 @@ use Rattle.tk_model.specs.declared.record.Pair.{Pair}
 use Rattle.tk_model.specs.Orders.{key_cmp}
 use Rattle.tk_model.specs.Records.{AllBehind}
 use Rattle.tk_restore.proofs.Placing.{behind_here, same_goes, same_stands, front_less, goes_between, none_between}
-use Rattle.tk_restore.proofs.records.place_from_end.Goals as goal
+use Rattle.tk_restore.proofs.rising.place_from_end.Goals as goal
 
 back : (k : List ℕ) (m : List Pair) (i : ℕ) → 0 < i → AllBehind Hash k (drop i m) → AllBehind Hash k (drop (i - 1 + 1) m)
 back k m i some behind =
