@@ -2,6 +2,7 @@
 use Rattle.std.specs.Prelude.{ℕ, ◌+◌, ◌*◌, ◌-◌, ◌/◌, ◌^◌, ◌<◌, ◌≤◌, max, List, [], ◌∷◌, ◌++◌, length, Bool, true, false, replicate, slice_index, take, drop, Option, Some, None, if◌then◌else◌, ◌&&◌, ◌||◌, ◌==◌, nat_le}
 use Rattle.std.specs.Int.{w16, w32, w64, to_be_bytes}
 use Rattle.std.specs.Str.{bytes_eq}
+use Rattle.tk_block.specs.Sizes.{numbers_size, check_size, block_overhead, extent_unit, least_extent}
 use Rattle.tk_block.specs.Number.{u16_in, u32_in, u64_in}
 use Rattle.tk_block.specs.Text.{checked, head_text}
 use Rattle.tk_model.specs.declared.record.Change.{Change}
@@ -27,11 +28,11 @@ body_text b place = checked (body_front b) place
 
 -- the bytes of a block without padding
 abbrev pub room_of : Body → ℕ
-room_of b = 44 + length b.key + length b.value
+room_of b = block_overhead + length b.key + length b.value
 
 -- the least extent that fits: a multiple of 8, at least 48
 abbrev pub extent_for : ℕ → ℕ
-extent_for room = max 48 ((room + 7) / 8 * 8)
+extent_for room = max least_extent ((room + (extent_unit - 1)) / extent_unit * extent_unit)
 
 abbrev pub extent_of : Body → ℕ
 extent_of b = extent_for (room_of b)
@@ -96,16 +97,16 @@ abbrev pub body_in : List ℕ → Body
 body_in bytes = record {
   kind = slice_index bytes 0;
   last = slice_index bytes 1 == 1;
-  key = take (u16_in bytes 2) (drop 16 bytes);
-  value = take (u32_in bytes 4) (drop (16 + u16_in bytes 2) bytes);
+  key = take (u16_in bytes 2) (drop numbers_size bytes);
+  value = take (u32_in bytes 4) (drop (numbers_size + u16_in bytes 2) bytes);
   number = u64_in bytes 8;
 }
 
 -- where the check stands, by the lengths at the front
 abbrev pub check_in : List ℕ → ℕ
-check_in bytes = 16 + u16_in bytes 2 + u32_in bytes 4
+check_in bytes = numbers_size + u16_in bytes 2 + u32_in bytes 4
 
 -- the body at the front of bytes that lie at a place, where they spell one
 unfoldable pub body_at : (bytes : List ℕ) (place : ℕ) → Option Body
 body_at bytes place =
-    if nat_le (check_in bytes + 4) (length bytes) && is_body (body_in bytes) && bytes_eq (take (check_in bytes + 4) bytes) (body_text (body_in bytes) place) then Some (body_in bytes) else None
+    if nat_le (check_in bytes + check_size) (length bytes) && is_body (body_in bytes) && bytes_eq (take (check_in bytes + check_size) bytes) (body_text (body_in bytes) place) then Some (body_in bytes) else None

@@ -3,4 +3,5 @@ pub mod Grammar
 pub mod Layout
 pub mod Number
 pub mod Renumber
+pub mod Sizes
 pub mod Text

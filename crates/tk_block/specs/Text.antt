@@ -3,6 +3,7 @@ use Rattle.std.specs.Prelude.{ℕ, ◌+◌, ◌*◌, ◌%◌, ◌^◌, List, [],
 use Rattle.std.specs.Int.{w32, w64, to_be_bytes}
 use Rattle.std.specs.Str.{bytes_eq}
 use Rattle.tk_model.specs.Hashes.{fnv32_of}
+use Rattle.tk_block.specs.Sizes.{static_size, closing_size, heads_place, cell_size, head_size, extent_offset, extent_unit, least_extent}
 use Rattle.tk_block.specs.Number.{u64_in}
 use Rattle.tk_block.specs.declared.head.StaticHead.{StaticHead}
 use Rattle.tk_block.specs.declared.closing.Closing.{Closing}
@@ -25,17 +26,17 @@ head_text extent place = checked (head_front extent) place
 
 -- a multiple of 8, at least 48
 abbrev pub is_extent : ℕ → Bool
-is_extent e = (e % 8 == 0) && nat_le 48 e && nat_lt e (2 ^ 64)
+is_extent e = (e % extent_unit == 0) && nat_le least_extent e && nat_lt e (2 ^ 64)
 
 -- the extent at the front of bytes that lie at a place, where they spell a head
 unfoldable pub head_at : (bytes : List ℕ) (place : ℕ) → Option ℕ
 head_at bytes place =
-    let e = u64_in bytes 4 in
-    if nat_le 16 (length bytes) && is_extent e && bytes_eq (take 16 bytes) (head_text e place) then Some e else None
+    let e = u64_in bytes extent_offset in
+    if nat_le head_size (length bytes) && is_extent e && bytes_eq (take head_size bytes) (head_text e place) then Some e else None
 
 -- where the records begin
 abbrev pub base_of : ℕ → ℕ
-base_of p = 64 + 8 * 2 ^ p
+base_of p = heads_place + cell_size * 2 ^ p
 
 -- `TKPHASH` and LF, kind, version, p, order, generation, records' base
 unfoldable pub static_front : StaticHead → List ℕ
@@ -56,7 +57,7 @@ fields_in bytes = record { kind = slice_index bytes 8; version = slice_index byt
 -- the header that the first 32 bytes spell
 unfoldable pub static_at : List ℕ → Option StaticHead
 static_at bytes =
-    if nat_le 32 (length bytes) && is_static (fields_in bytes) && bytes_eq (take 32 bytes) (static_text (fields_in bytes)) then Some (fields_in bytes) else None
+    if nat_le static_size (length bytes) && is_static (fields_in bytes) && bytes_eq (take static_size bytes) (static_text (fields_in bytes)) then Some (fields_in bytes) else None
 
 -- closed size, count of records, next number, four zero bytes
 unfoldable pub closing_front : Closing → List ℕ
@@ -72,4 +73,4 @@ closing_in bytes = record { size = u64_in bytes 0; count = u64_in bytes 8; next 
 -- the closing part that the first 32 bytes spell
 unfoldable pub closing_at : List ℕ → Option Closing
 closing_at bytes =
-    if nat_le 32 (length bytes) && bytes_eq (take 32 bytes) (closing_text (closing_in bytes)) then Some (closing_in bytes) else None
+    if nat_le closing_size (length bytes) && bytes_eq (take closing_size bytes) (closing_text (closing_in bytes)) then Some (closing_in bytes) else None

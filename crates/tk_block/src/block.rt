@@ -1,12 +1,14 @@
 ghost use Rattle.std.specs.Prelude.{◌≡◌, ◌≤◌, ◌<◌, ◌^◌, ◌+◌, ◌-◌, ◌++◌, ℕ, length, OnOk, OnErr, IfOk, option_map, Some, None, if◌then◌else◌, take, nat_le};
 ghost use Rattle.std.specs.Io.{StartsWith};
 ghost use Rattle.std.specs.Str.{bytes_eq};
+ghost use Rattle.tk_block.specs.Sizes.{check_size, block_overhead};
 ghost use Rattle.tk_block.specs.Text.{check_number};
 ghost use Rattle.tk_block.specs.Grammar.{Reads, FitsBody};
 ghost use Rattle.tk_block.specs.Blocks.{IsSmall, flag, numbers_text, body_front, body_text, block_text, room_of, extent_for, extent_of, body_said, is_nil, is_body, body_at, body_in, check_in};
 
 use crate::head::write_head;
 use crate::number::{u16_at, u32_at, u64_at};
+use crate::sizes::{BLOCK_OVERHEAD, CHECK_SIZE, EXTENT_UNIT, LEAST_EXTENT, NUMBERS_SIZE};
 use std::alloc::Global;
 use tk_model::{Bytes, NoMemory, fnv32, fnv32_from};
 
@@ -42,11 +44,11 @@ pub(crate) fn check(bytes: &[u8], place: u64) -> u32
 pub fn extent_of(key: usize, value: usize) -> u64
     requires key { key < 2 ^ 16 }
     requires value { value ≤ 33554431 }
-    ensures value { result ≡ extent_for (44 + key + value) }
-    ensures fits { 44 + key + value ≤ result }
+    ensures value { result ≡ extent_for (block_overhead + key + value) }
+    ensures fits { block_overhead + key + value ≤ result }
 {
-    let room = 44 + key as u64 + value as u64;
-    48.max((room + 7) / 8 * 8)
+    let room = BLOCK_OVERHEAD as u64 + key as u64 + value as u64;
+    LEAST_EXTENT.max((room + EXTENT_UNIT - 1) / EXTENT_UNIT * EXTENT_UNIT)
 }
 
 fn flag(last: bool) -> u8
@@ -98,7 +100,7 @@ pub fn write_block(block: Block<'_>, place: u64, link: u64, out: &mut Bytes) -> 
     ensures ok { OnOk result (out.new ≡ out.old ++ block_text (body_said block.entry) place link) }
     ensures err { OnErr result (StartsWith out.new out.old) }
 {
-    let room = 44 + block.key.len() + block.value.len();
+    let room = BLOCK_OVERHEAD + block.key.len() + block.value.len();
     let extent = extent_of(block.key.len(), block.value.len());
     out.extend(&write_head(extent, place))?;
     out.extend(&link.to_be_bytes())?;
@@ -118,13 +120,13 @@ fn is_body(block: Block<'_>) -> bool
 
 /// Where the check stands, if the bytes are long enough for the lengths at their front.
 fn check_place(bytes: &[u8]) -> Option<usize>
-    ensures { result ≡ if nat_le (check_in bytes.now + 4) (length bytes.now) then Some (check_in bytes.now) else None }
+    ensures { result ≡ if nat_le (check_in bytes.now + check_size) (length bytes.now) then Some (check_in bytes.now) else None }
 {
-    if bytes.len() < 20 {
+    if bytes.len() < NUMBERS_SIZE + CHECK_SIZE {
         return None;
     }
-    let place = 16 + u16_at(bytes, 2) as usize + u32_at(bytes, 4) as usize;
-    if place <= bytes.len() - 4 {
+    let place = NUMBERS_SIZE + u16_at(bytes, 2) as usize + u32_at(bytes, 4) as usize;
+    if place <= bytes.len() - CHECK_SIZE {
         Some(place)
     } else {
         None
@@ -133,30 +135,31 @@ fn check_place(bytes: &[u8]) -> Option<usize>
 
 fn fields_of(bytes: &[u8], check_at: usize) -> Block<'_>
     requires place { check_at ≡ check_in bytes.now }
-    requires long { check_at + 4 ≤ length bytes.now }
+    requires long { check_at + check_size ≤ length bytes.now }
     ensures fields { body_said result ≡ body_in bytes.now }
     ensures key { length result.key.now < 2 ^ 16 }
 {
-    let value_at = 16 + u16_at(bytes, 2) as usize;
+    let value_at = NUMBERS_SIZE + u16_at(bytes, 2) as usize;
     Block {
         kind: bytes[0],
         last: bytes[1] == 1,
         number: u64_at(bytes, 8),
-        key: &bytes[16..value_at],
+        key: &bytes[NUMBERS_SIZE..value_at],
         value: &bytes[value_at..check_at],
     }
 }
 
 fn is_spelled(bytes: &[u8], check_at: usize, block: Block<'_>, place: u64) -> bool
     requires place { check_at ≡ check_in bytes.now }
-    requires long { check_at + 4 ≤ length bytes.now }
+    requires long { check_at + check_size ≤ length bytes.now }
     requires fields { body_said block ≡ body_in bytes.now }
     requires small { IsSmall block.key.now block.value.now }
-    ensures { result ≡ bytes_eq (take (check_in bytes.now + 4) bytes.now) (body_text (body_in bytes.now) place) }
+    ensures { result ≡ bytes_eq (take (check_in bytes.now + check_size) bytes.now) (body_text (body_in bytes.now) place) }
 {
     let numbers = numbers_of(block);
     let sum = check(&bytes[..check_at], place).to_be_bytes();
-    &bytes[..16] == numbers.as_slice() && &bytes[check_at..check_at + 4] == sum.as_slice()
+    &bytes[..NUMBERS_SIZE] == numbers.as_slice()
+        && &bytes[check_at..check_at + CHECK_SIZE] == sum.as_slice()
 }
 
 /// The body that the front of bytes at a place spells. Bytes behind it are not looked at.

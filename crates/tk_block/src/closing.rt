@@ -3,6 +3,7 @@ ghost use Rattle.tk_block.specs.Grammar.{Reads, FitsClosing};
 ghost use Rattle.tk_block.specs.Text.{closing_front, closing_text, closing_at};
 
 use crate::number::u64_at;
+use crate::sizes::CLOSING_SIZE;
 use tk_model::fnv32;
 
 /// The part of a header that is written again at each closing. All three are 0 while the file is open.
@@ -44,7 +45,7 @@ pub fn read_closing(bytes: &[u8]) -> Option<Closing>
     ensures value { result ≡ closing_at bytes.now }
     ensures exact { Reads FitsClosing closing_text closing_at }
 {
-    if bytes.len() < 32 {
+    if bytes.len() < CLOSING_SIZE {
         return None;
     }
     let closing = Closing {
@@ -53,7 +54,7 @@ pub fn read_closing(bytes: &[u8]) -> Option<Closing>
         next: u64_at(bytes, 16),
     };
     let text = write_closing(&closing);
-    if &bytes[..32] == text.as_slice() {
+    if &bytes[..CLOSING_SIZE] == text.as_slice() {
         Some(closing)
     } else {
         None

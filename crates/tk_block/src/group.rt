@@ -6,6 +6,9 @@ ghost use Rattle.tk_block.specs.Renumber.{IsGroupText, Renumbered, IsBlockIn, Re
 
 use crate::block::{Block, check, extent_of, write_block};
 use crate::number::{u16_at, u32_at, u64_at};
+use crate::sizes::{
+    BODY_OFFSET, EXTENT_OFFSET, KEY_LEN_OFFSET, KEY_OFFSET, NUMBER_OFFSET, VALUE_LEN_OFFSET,
+};
 use tk_model::{Bytes, Change, ChangeList, Group, ListOf, NoMemory};
 
 /// A place for each change: that of the block before it in its bucket's chain, or 0.
@@ -74,12 +77,12 @@ fn renumber_block(text: &mut Bytes, at: usize, place: u64, number: u64) -> usize
     ensures block { RenumberedBlock text.old text.new at place number result }
     ensures length { length text.new ≡ length text.old }
 {
-    let extent = u64_at(text.as_slice(), at + 4) as usize;
-    let key = u16_at(text.as_slice(), at + 26) as usize;
-    let value = u32_at(text.as_slice(), at + 28) as usize;
-    let check_at = at + 40 + key + value;
-    text.write_at(at + 32, &number.to_be_bytes());
-    let sum = check(&text.as_slice()[at + 24..check_at], place);
+    let extent = u64_at(text.as_slice(), at + EXTENT_OFFSET) as usize;
+    let key = u16_at(text.as_slice(), at + KEY_LEN_OFFSET) as usize;
+    let value = u32_at(text.as_slice(), at + VALUE_LEN_OFFSET) as usize;
+    let check_at = at + KEY_OFFSET + key + value;
+    text.write_at(at + NUMBER_OFFSET, &number.to_be_bytes());
+    let sum = check(&text.as_slice()[at + BODY_OFFSET..check_at], place);
     text.write_at(check_at, &sum.to_be_bytes());
     extent
 }

@@ -4,6 +4,9 @@ ghost use Rattle.tk_block.specs.Text.{head_text, head_at, is_extent, static_fron
 
 use crate::block::check;
 use crate::number::u64_at;
+use crate::sizes::{
+    CELL_SIZE, EXTENT_OFFSET, EXTENT_UNIT, HEAD_SIZE, HEADS_PLACE, LEAST_EXTENT, STATIC_SIZE,
+};
 use tk_model::fnv32;
 
 /// The head of a block at a place.
@@ -24,7 +27,7 @@ pub fn write_head(extent: u64, place: u64) -> [u8; 16]
 fn is_extent(e: u64) -> bool
     ensures { result ≡ is_extent e }
 {
-    e % 8 == 0 && 48 <= e
+    e % EXTENT_UNIT == 0 && LEAST_EXTENT <= e
 }
 
 /// The extent at the front of bytes that lie at a place, where they spell a head.
@@ -33,15 +36,15 @@ pub fn read_head(bytes: &[u8], place: u64) -> Option<u64>
     ensures value { result ≡ head_at bytes.now place }
     ensures exact { Reads FitsExtent (λ e. head_text e place) (λ bytes. head_at bytes place) }
 {
-    if bytes.len() < 16 {
+    if bytes.len() < HEAD_SIZE {
         return None;
     }
-    let extent = u64_at(bytes, 4);
+    let extent = u64_at(bytes, EXTENT_OFFSET);
     if !is_extent(extent) {
         return None;
     }
     let text = write_head(extent, place);
-    if &bytes[..16] == text.as_slice() {
+    if &bytes[..HEAD_SIZE] == text.as_slice() {
         Some(extent)
     } else {
         None
@@ -65,7 +68,7 @@ pub fn base_of(p: u8) -> u64
     requires { p ≤ 24 }
     ensures { result ≡ base_of p }
 {
-    64 + 8 * (1 << p)
+    HEADS_PLACE + CELL_SIZE * (1 << p)
 }
 
 fn static_front(head: &StaticHead) -> [u8; 28]
@@ -126,7 +129,7 @@ pub fn read_static(bytes: &[u8]) -> Option<StaticHead>
     ensures value { result ≡ static_at bytes.now }
     ensures exact { Reads FitsStatic static_text static_at }
 {
-    if bytes.len() < 32 {
+    if bytes.len() < STATIC_SIZE {
         return None;
     }
     let head = StaticHead {
@@ -140,7 +143,7 @@ pub fn read_static(bytes: &[u8]) -> Option<StaticHead>
         return None;
     }
     let text = write_static(&head);
-    if &bytes[..32] == text.as_slice() {
+    if &bytes[..STATIC_SIZE] == text.as_slice() {
         Some(head)
     } else {
         None

@@ -1,8 +1,8 @@
 use Rattle.tk_block.proofs.Grammar.{closings}
 use Rattle.tk_block.proofs.closing.read_closing.Goals as goal
 
-pub returns-then-bytes-lt32-clause-exact : goal.returns-then-bytes-lt32-clause-exact
-returns-then-bytes-lt32-clause-exact c = closings
+pub returns-then-bytes-lt-CLOSING_SIZE-clause-exact : goal.returns-then-bytes-lt-CLOSING_SIZE-clause-exact
+returns-then-bytes-lt-CLOSING_SIZE-clause-exact c = closings
 
 pub returns-then-eq-clause-exact : goal.returns-then-eq-clause-exact
 returns-then-eq-clause-exact c = closings
