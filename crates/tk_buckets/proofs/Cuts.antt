@@ -1,5 +1,5 @@
 -- A block is taken out of its bucket on a disk.
-use Rattle.std.proofs.Common.{◌≡◌, ◌≢◌, ℕ, ◌+◌, ◌<◌, ◌≤◌, ◌^◌, List, length, true, refl, sym, ◌∙◌, ap, subst, arith}
+use Rattle.std.proofs.Common.{◌≡◌, ◌≢◌, ℕ, ◌+◌, ◌*◌, ◌/◌, ◌<◌, ◌≤◌, ◌^◌, List, length, true, refl, sym, ◌∙◌, ap, subst, arith}
 use Rattle.std.specs.Prelude.{min, Option, Some, None, IfSome, Result, OnOk}
 use Rattle.std.specs.Option.{option_map}
 use Rattle.std.specs.Int.{w64, to_be_bytes}
@@ -108,3 +108,28 @@ pub cell_torn : (h : StaticHead) (o : Option (List ℕ)) (bucket place cell link
 cell_torn h o bucket place cell link places old mid new cut within torn =
     IfSome_then o cut
     (λ f known chain has. subst (λ (n : ℕ). Follows (Torn n 8) old new) (known chain has).cell_is (λ c left. let d = torn c left in (d.0, within d.0 d.1, d.2)))
+
+-- ---- what is read
+
+-- nothing yet
+pub cost_none : (h : StaticHead) (o : Option (List ℕ)) (bucket place : ℕ) (places : List ℕ) (before now : ℕ) → now ≤ before → IfSome o (λ f. IsChain h f bucket places → has_block place places ≡ true → now ≤ before + 8 + 8 * length places)
+cost_none h None bucket place places before now most = tt
+cost_none h (Some f) bucket place places before now most = λ chain has. omega (arith, most)
+
+-- what the search read, and the block's link
+pub cost_in_chain : (h : StaticHead) (o last : Option (List ℕ)) (bucket place : ℕ) (places : List ℕ) (before was mid now : ℕ) → bucket < 2 ^ h.p → last ≡ o → was ≤ before
+    → IfSome last (λ f. head_cell bucket + 8 ≤ length f → IsLinked h f (u64_in f (head_cell bucket)) places → has_block place places ≡ true → mid ≤ was + 8 * length places) → now ≤ mid + 8
+    → IfSome o (λ f. IsChain h f bucket places → has_block place places ≡ true → now ≤ before + 8 + 8 * length places)
+cost_in_chain h o last bucket place places before was mid now below is first known link =
+    let read : (f : List ℕ) → (head_cell bucket + 8 ≤ length f → IsLinked h f (u64_in f (head_cell bucket)) places → has_block place places ≡ true → mid ≤ was + 8 * length places)
+    → IsChain h f bucket places → has_block place places ≡ true → now ≤ before + 8 + 8 * length places =
+    λ f reads chain has. omega (arith, first, link, reads (omega (arith, head_before h bucket below, chain.heads)) chain.linked has) in
+    subst (λ (o : Option (List ℕ)). IfSome o (λ f. IsChain h f bucket places → has_block place places ≡ true → now ≤ before + 8 + 8 * length places)) is (IfSome_then last known read)
+
+pub bound_none : (o : Option (List ℕ)) (before now : ℕ) → now ≤ before → IfSome o (λ f. now ≤ before + 16 + 8 * (length f / 48))
+bound_none None before now most = tt
+bound_none (Some f) before now most = omega (arith, most)
+
+pub bound_in_file : (o : Option (List ℕ)) (before now len : ℕ) → IfSome o (λ f. len ≡ length f) → now ≤ before + 16 + 8 * (len / 48) → IfSome o (λ f. now ≤ before + 16 + 8 * (length f / 48))
+bound_in_file None before now len is most = tt
+bound_in_file (Some f) before now len is most = subst (λ (n : ℕ). now ≤ before + 16 + 8 * (n / 48)) is most

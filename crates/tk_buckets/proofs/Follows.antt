@@ -9,8 +9,8 @@ use Rattle.std.specs.Int.{w64, from_be_bytes}
 use Rattle.tk_disk.specs.Disk.{ReadsFrom}
 use Rattle.tk_block.specs.Number.{u64_in}
 use Rattle.tk_block.specs.declared.head.StaticHead.{StaticHead}
-use Rattle.tk_buckets.specs.Chain.{IsApart, IsLinked, IsChain, extent_in, link_in, head_cell}
-use Rattle.tk_buckets.proofs.Links.{whole_long, head_before}
+use Rattle.tk_buckets.specs.Chain.{IsApart, IsLinked, extent_in, link_in}
+use Rattle.tk_buckets.proofs.Links.{whole_long}
 
 read_whole : (f : List ℕ) (at n : ℕ) (into : List ℕ) → ReadsFrom f at into n → length into ≡ 8 → at + 8 ≤ length f → u64_in into 0 ≡ u64_in f at
 unfolding u64_in
@@ -97,7 +97,7 @@ pub begins : (h : StaticHead) (o : Option (List ℕ)) (first : ℕ) (places : Li
 begins h None first places = tt
 begins h (Some f) first places = λ linked. record { rest = places; is = refl; linked = linked }
 
-pub goes_on : (h : StaticHead) (o : Option (List ℕ)) (first : ℕ) (places done : List ℕ) (len at next n : ℕ) → IfSome o (λ f. length f ≡ len) → len < 2 ^ 64 → at ≡ min (next + 16) 18446744073709551615 → next ≢ 0
+pub goes_on : (h : StaticHead) (o : Option (List ℕ)) (first : ℕ) (places done : List ℕ) (len at next n : ℕ) → IfSome o (λ f. length f ≤ len) → len < 2 ^ 64 → at ≡ min (next + 16) 18446744073709551615 → next ≢ 0
     → IfSome o (λ f. at + 8 ≤ length f → n ≡ u64_in f at) → ToldLeft h o first places done next → ToldLeft h o first places (done ++ next ∷ []) n
 goes_on h None first places done len at next n long small cell ne value left = tt
 goes_on h (Some f) first places done len at next n long small cell ne value left = λ linked.
@@ -105,12 +105,16 @@ goes_on h (Some f) first places done len at next n long small cell ne value left
     one_more h f done places l.rest next n ne l.is l.linked
     (λ within. let is : at ≡ next + 16 = omega (arith, cell, within, long, small) in value (omega (arith, is, within)) ∙ ap (λ (k : ℕ). u64_in f k) is)
 
-pub ends : (h : StaticHead) (o : Option (List ℕ)) (first : ℕ) (places done : List ℕ) (len next : ℕ) → IfSome o (λ f. length f ≡ len) → (next ≡ 0) ⊎ (len / 48 ≤ length done) → ToldLeft h o first places done next
+over_file : (len long next n : ℕ) → long ≤ len → (next ≡ 0) ⊎ (len / 48 ≤ n) → (next ≡ 0) ⊎ (long / 48 ≤ n)
+over_file len long next n fits (inl none) = inl none
+over_file len long next n fits (inr full) = inr (omega (arith, fits, full))
+
+pub ends : (h : StaticHead) (o : Option (List ℕ)) (first : ℕ) (places done : List ℕ) (len next : ℕ) → IfSome o (λ f. length f ≤ len) → (next ≡ 0) ⊎ (len / 48 ≤ length done) → ToldLeft h o first places done next
     → IfSome o (λ f. IsLinked h f first places → done ≡ places)
 ends h None first places done len next long over left = tt
 ends h (Some f) first places done len next long over left = λ linked.
     let l = left linked in
-    none_left h f done places l.rest first next l.is linked l.linked (subst (λ (k : ℕ). (next ≡ 0) ⊎ (k / 48 ≤ length done)) (sym long) over)
+    none_left h f done places l.rest first next l.is linked l.linked (over_file len (length f) next (length done) long over)
 
 pub taken_so_far : (h : StaticHead) (o : Option (List ℕ)) (first : ℕ) (places done : List ℕ) (before now next : ℕ) → now ≤ before + 8 * length done → ToldLeft h o first places done next
     → IfSome o (λ f. IsLinked h f first places → now ≤ before + 8 * length places)
@@ -122,12 +126,3 @@ pub taken_one_more : (h : StaticHead) (o : Option (List ℕ)) (first : ℕ) (pla
 taken_one_more h None first places done before now next ne most left = tt
 taken_one_more h (Some f) first places done before now next ne most left = λ linked.
     let l = left linked in omega (arith, most, ap length l.is, length-append done l.rest, some_left h f l.rest next ne l.linked)
-
--- what is known of the blocks behind the head is known of the bucket
-pub from_head : (h : StaticHead) (o mid last : Option (List ℕ)) (bucket first : ℕ) (places : List ℕ) (Q R : Type 0) → bucket < 2 ^ h.p → mid ≡ o → last ≡ mid
-    → IfSome mid (λ f. head_cell bucket + 8 ≤ length f → first ≡ u64_in f (head_cell bucket)) → (Q → R) → IfSome last (λ f. IsLinked h f first places → Q) → IfSome o (λ f. IsChain h f bucket places → R)
-from_head h None mid last bucket first places Q R below is then_is value so known = tt
-from_head h (Some f) mid last bucket first places Q R below is then_is value so known = λ chain.
-    let head : first ≡ u64_in f (head_cell bucket) =
-    subst (λ (o : Option (List ℕ)). IfSome o (λ f. head_cell bucket + 8 ≤ length f → first ≡ u64_in f (head_cell bucket))) is value (omega (arith, head_before h bucket below, chain.heads)) in
-    so (subst (λ (o : Option (List ℕ)). IfSome o (λ f. IsLinked h f first places → Q)) (then_is ∙ is) known (subst (λ (n : ℕ). IsLinked h f n places) (sym head) chain.linked))

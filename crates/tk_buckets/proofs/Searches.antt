@@ -1,5 +1,5 @@
 -- The search for the cell that leads to a block.
-use Rattle.std.proofs.Common.{◌≡◌, ◌≢◌, ◌⊎◌, inl, inr, ℕ, ◌+◌, ◌/◌, ◌-◌, ◌<◌, ◌≤◌, ◌^◌, Bool, true, cond, eqb, leb, List, [], ◌∷◌, length, refl, sym, ◌∙◌, ap, subst, arith}
+use Rattle.std.proofs.Common.{◌≡◌, ◌≢◌, ◌⊎◌, inl, inr, ℕ, ◌+◌, ◌*◌, ◌/◌, ◌-◌, ◌<◌, ◌≤◌, ◌^◌, Bool, true, cond, eqb, leb, List, [], ◌∷◌, length, refl, sym, ◌∙◌, ap, subst, arith}
 use Rattle.std.specs.Prelude.{min, ◌&&◌, Option, Some, None, IfSome}
 use Rattle.std.proofs.lemmas.Bool.{eq-eqb, ne_eqb, cases_eq, le-leb}
 use Rattle.tk_block.specs.Number.{u64_in}
@@ -97,3 +97,23 @@ ends h None place cell places len at next steps found long size over is toward =
 ends h (Some f) place cell places len at next steps found long size over is toward = λ fits linked has.
     let t = toward fits linked has in
     is ∙ chosen h f place places cell at next steps size t (arrived h f place places cell at next steps linked t (subst (λ (k : ℕ). (next ≡ place) ⊎ (k / 48 ≤ steps)) (sym long) over))
+
+-- what the search reads: a head, and of each block on the way its link
+abbrev pub Reads : StaticHead → Option (List ℕ) → (place cell : ℕ) → (places : List ℕ) → (before now : ℕ) → Type 0
+Reads h o place cell places before now = IfSome o (λ f. cell + 8 ≤ length f → IsLinked h f (u64_in f cell) places → has_block place places ≡ true → now ≤ before + 8 * length places)
+
+pub cost_first : (h : StaticHead) (o : Option (List ℕ)) (place cell : ℕ) (places : List ℕ) (before now : ℕ) → now ≤ before + 8 → Reads h o place cell places before now
+cost_first h None place cell places before now most = tt
+cost_first h (Some f) place cell places before now most = λ fits linked has. omega (arith, most, more_left h f place places cell (u64_in f cell) places linked has)
+
+pub cost_more : (h : StaticHead) (o : Option (List ℕ)) (place cell : ℕ) (places : List ℕ) (before now at next steps : ℕ) → next ≢ place → now ≤ before + 16 + 8 * steps → ToldToward h o place cell places at next steps → Reads h o place cell places before now
+cost_more h None place cell places before now at next steps ne most toward = tt
+cost_more h (Some f) place cell places before now at next steps ne most toward = λ fits linked has.
+    let t = toward fits linked has in
+    omega (arith, most, t.count, two_left h f place places cell next t.rest ne t.linked t.among)
+
+pub cost_left : (h : StaticHead) (o : Option (List ℕ)) (place cell : ℕ) (places : List ℕ) (before now at next steps : ℕ) → now ≤ before + 8 + 8 * steps → ToldToward h o place cell places at next steps → Reads h o place cell places before now
+cost_left h None place cell places before now at next steps most toward = tt
+cost_left h (Some f) place cell places before now at next steps most toward = λ fits linked has.
+    let t = toward fits linked has in
+    omega (arith, most, t.count, more_left h f place places cell next t.rest t.linked t.among)

@@ -83,13 +83,19 @@ without place (q ∷ qs) = if q == place then qs else q ∷ without place qs
 abbrev pub IfInChain : Option (List ℕ) → StaticHead → (bucket place : ℕ) → (List ℕ → List ℕ → Type 0) → Type 0
 IfInChain o h bucket place Q = (places : List ℕ) → IfSome o (λ f. IsChain h f bucket places → has_block place places ≡ true → Q f places)
 
-abbrev pub place_step : (p bucket : ℕ) → List ℕ → Placed → List ℕ
-place_step p bucket found x = if x.body.kind == 4 then [] else (if is_in p bucket x.body then x.place ∷ found else found)
+-- a block more: a clear empties the bucket, a set or remove block of it is its newest
+abbrev pub block_step : (p bucket : ℕ) → List Placed → Placed → List Placed
+block_step p bucket found x = if x.body.kind == 4 then [] else (if is_in p bucket x.body then x ∷ found else found)
 
--- the places of a bucket's blocks since the last clear, the newest first, in front of those that were found
-abbrev pub bucket_places : (p bucket : ℕ) → (found : List ℕ) → List Placed → List ℕ
-bucket_places p bucket found [] = found
-bucket_places p bucket found (x ∷ xs) = bucket_places p bucket (place_step p bucket found x) xs
+-- the set and remove blocks of a bucket since the last clear, the newest first, in front of those that were found
+abbrev pub bucket_blocks : (p bucket : ℕ) → (found : List Placed) → List Placed → List Placed
+bucket_blocks p bucket found [] = found
+bucket_blocks p bucket found (x ∷ xs) = bucket_blocks p bucket (block_step p bucket found x) xs
+
+-- where blocks stand
+abbrev pub places_in : List Placed → List ℕ
+places_in [] = []
+places_in (x ∷ xs) = x.place ∷ places_in xs
 
 abbrev pub AllFitBody : List Body → Type 0
 AllFitBody [] = Unit {0}

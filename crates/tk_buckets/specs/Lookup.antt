@@ -2,13 +2,25 @@
 use Rattle.std.specs.Prelude.{◌≡◌, ℕ, ◌+◌, ◌-◌, ◌≤◌, min, max, Bool, false, List, [], ◌∷◌, length, take, drop, Option, Some, None, if◌then◌else◌, ◌==◌, ◌&&◌}
 use Rattle.tk_model.specs.Orders.{same_bytes}
 use Rattle.tk_block.specs.Blocks.{body_at, room_of}
+use Rattle.tk_block.specs.Layout.{Placed}
 use Rattle.tk_block.specs.declared.block.Body.{Body}
-use Rattle.tk_buckets.specs.Chain.{extent_in}
+use Rattle.tk_block.specs.declared.head.StaticHead.{StaticHead}
+use Rattle.tk_buckets.specs.Chain.{IsWhole, extent_in}
 use Rattle.tk_buckets.specs.declared.lookup.FoundBlock.{FoundBlock}
 
 -- the body of the block at a place
 abbrev pub body_in_block : List ℕ → (place : ℕ) → Option Body
 body_in_block f place = body_at (drop (place + 24) f) place
+
+-- a block stands whole at its place, with its body
+pub record StandsAt (h : StaticHead) (f : List ℕ) (x : Placed) : Type 0 where
+  pub whole : IsWhole h f x.place
+  pub says : body_in_block f x.place ≡ Some x.body
+
+-- each of these blocks does
+abbrev pub AllStand : StaticHead → List ℕ → List Placed → Type 0
+AllStand h f [] = Unit {0}
+AllStand h f (x ∷ xs) = StandsAt h f x × AllStand h f xs
 
 -- a body of this key
 abbrev pub has_key : (key : List ℕ) → Option Body → Bool
@@ -35,7 +47,8 @@ read_of_chain f key room [] = 0
 read_of_chain f key room (q ∷ qs) =
     read_of_block key room (body_in_block f q) + (if has_key key (body_in_block f q) then 0 else read_of_chain f key room qs)
 
--- a block with the key, of whose value the buffer has as much as there is room for
+-- what is told of a block is so of the block at its place, which has the key; the buffer has its value from byte 40 and the
+-- key's length on, as far as there is room
 pub record IsBlockOf (f key buffer : List ℕ) (x : FoundBlock) : Type 0 where
   pub body : Body
   pub says : body_in_block f x.place ≡ Some body

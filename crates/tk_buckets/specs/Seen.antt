@@ -9,7 +9,7 @@ use Rattle.tk_buckets.specs.declared.lookup.FoundBlock.{FoundBlock}
 abbrev pub shown_block : (place : ℕ) → (bytes : List ℕ) → FoundBlock
 shown_block place bytes = record { place = place; extent = u64_in bytes 4; kind = slice_index bytes 24; value_len = u32_in bytes 28 }
 
--- where its link leads, and whether it has the key
+-- the buffer has the link of the block at a place; it is told whether the block has the key, and if so the buffer shows the block
 pub record Sees (f key : List ℕ) (place : ℕ) (buffer : List ℕ) (has : Bool) : Type 0 where
   pub link_is : u64_in buffer 16 ≡ link_in f place
   pub told : has ≡ has_key key (body_in_block f place)

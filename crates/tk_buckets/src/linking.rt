@@ -1,4 +1,4 @@
-ghost use Rattle.std.specs.Prelude.{◌≡◌, ◌≢◌, ◌+◌, ◌*◌, ◌<◌, ◌≤◌, ◌^◌, ◌∷◌, ◌&&◌, ◌-◌, List, ℕ, length, true, nat_le, Some, None, IfOk, IfSome, OnOk, if◌then◌else◌};
+ghost use Rattle.std.specs.Prelude.{◌≡◌, ◌≢◌, ◌+◌, ◌*◌, ◌/◌, ◌<◌, ◌≤◌, ◌^◌, ◌∷◌, ◌&&◌, ◌-◌, List, ℕ, length, true, nat_le, Some, None, IfOk, IfSome, OnOk, if◌then◌else◌};
 ghost use Rattle.std.specs.Option.{is_some, option_map};
 ghost use Rattle.std.specs.Int.{w64, to_be_bytes};
 ghost use Rattle.tk_disk.specs.Crash.{Torn, Follows, Elapses, OnlyReads, LeavesOnly, PastOnly};
@@ -24,18 +24,24 @@ pub fn insert<D: Disk>(
     requires bucket { bucket < 2 ^ head.now.p }
     requires heads { IfSome (D.image disk.old) (λ f. base_of head.now.p ≤ length f) }
     // the file and its chains
-    ensures written { OnOk result (D.image disk.new ≡ option_map (put_at (head_cell bucket) (to_be_bytes w64 place)) (D.image disk.old)) }
-    ensures first { (places : List ℕ) → IfSome (D.image disk.old) (λ f. IsNext head.now f bucket place places
-        → OnOk result (IfSome (D.image disk.new) (λ g. IsChain head.now g bucket (place ∷ places)))) }
-    ensures others { (other : ℕ) (places : List ℕ) → other ≢ bucket → IfSome (D.image disk.old) (λ f. IsChain head.now f other places
+    ensures written { OnOk result (D.image disk.new
+        ≡ option_map (put_at (head_cell bucket) (to_be_bytes w64 place)) (D.image disk.old)) }
+    ensures first { (places : List ℕ) → IfSome (D.image disk.old) (λ f.
+        IsNext head.now f bucket place places
+        → OnOk result (IfSome (D.image disk.new) (λ g. IsChain head.now g bucket
+        (place ∷ places)))) }
+    ensures others { (other : ℕ) (places : List ℕ) → other ≢ bucket
+        → IfSome (D.image disk.old) (λ f. IsChain head.now f other places
         → OnOk result (IfSome (D.image disk.new) (λ g. IsChain head.now g other places))) }
     ensures told { is_some (D.image disk.new) ≡ is_some (D.image disk.old) }
     // its counts
     ensures taken { D.taken_count disk.new ≡ D.taken_count disk.old }
     ensures cause { HasCause (D.fault_count disk.old) (D.fault_count disk.new) result }
     // a crash: the head's eight bytes are all that is written
-    ensures crash { Follows (Torn (head_cell bucket) 8) (D.may_leave disk.old) (D.may_leave disk.new) }
-    ensures time { LeavesOnly D.moment D.left_since disk.old disk.new (λ c. (d : List ℕ) × D.may_leave disk.old d × Torn (head_cell bucket) 8 d c) }
+    ensures crash { Follows (Torn (head_cell bucket) 8) (D.may_leave disk.old)
+        (D.may_leave disk.new) }
+    ensures time { LeavesOnly D.moment D.left_since disk.old disk.new
+        (λ c. (d : List ℕ) × D.may_leave disk.old d × Torn (head_cell bucket) 8 d c) }
     ensures past { Writes (head_cell bucket) (to_be_bytes w64 place)
         (D.past disk.old) (D.past disk.new) }
     ensures told_past { IfSome (D.image disk.old) (λ _. OnOk result (D.past disk.new
@@ -43,7 +49,8 @@ pub fn insert<D: Disk>(
     ensures pasts { PastOnly D.moment D.left_with disk.old disk.new
         (Writes (head_cell bucket) (to_be_bytes w64 place) (D.past disk.old)) }
     ensures time_with { Elapses (D.moment disk.old) (D.moment disk.new)
-        (D.left_with disk.old) (D.left_with disk.new) (λ x. (x.0 ≡ D.past disk.new) × D.may_leave disk.new x.1) }
+        (D.left_with disk.old) (D.left_with disk.new)
+        (λ x. (x.0 ≡ D.past disk.new) × D.may_leave disk.new x.1) }
 {
     disk.write_at(64 + 8 * bucket, &place.to_be_bytes())
 }
@@ -64,13 +71,19 @@ fn found_cell(found: bool, cell: u64) -> Option<u64>
 fn cell_of<D: Disk>(disk: &mut D, cell: u64, place: u64, len: u64) -> Result<Option<u64>, DiskError>
     requires len { IfSome (D.image disk.old) (λ f. length f ≡ len) }
     requires size { IfSome (D.image disk.old) (λ f. length f ≤ 2 ^ 40) }
-    ensures found { (h : StaticHead) (places : List ℕ) → IfSome (D.image disk.old) (λ f. cell + 8 ≤ length f → IsLinked h f (u64_in f cell) places → has_block place places ≡ true
+    ensures found { (h : StaticHead) (places : List ℕ) → IfSome (D.image disk.old) (λ f.
+        cell + 8 ≤ length f → IsLinked h f (u64_in f cell) places → has_block place places ≡ true
         → IfOk result (λ c. c ≡ Some (cell_to cell place places))) }
     ensures fits { IfOk result (λ c. IfSome c (λ n. n + 8 ≤ 2 ^ 40)) }
+    ensures cost { (h : StaticHead) (places : List ℕ) → IfSome (D.image disk.old) (λ f.
+        cell + 8 ≤ length f → IsLinked h f (u64_in f cell) places → has_block place places ≡ true
+        → D.taken_count disk.new ≤ D.taken_count disk.old + 8 * length places) }
+    ensures bound { D.taken_count disk.new ≤ D.taken_count disk.old + 8 + 8 * (len / 48) }
     ensures image { D.image disk.new ≡ D.image disk.old }
     ensures more { D.taken_count disk.old ≤ D.taken_count disk.new }
     ensures cause { HasCause (D.fault_count disk.old) (D.fault_count disk.new) result }
-    ensures still { OnlyReads D.may_leave D.moment D.left_since D.past D.left_with disk.old disk.new }
+    ensures still { OnlyReads D.may_leave D.moment D.left_since D.past D.left_with
+        disk.old disk.new }
 {
     let mut at = cell;
     let mut next = number_at(disk, cell)?;
@@ -92,7 +105,8 @@ pub fn unlink<D: Disk>(
 ) -> Result<(), DiskError>
     requires p { head.now.p ≤ 24 }
     requires bucket { bucket < 2 ^ head.now.p }
-    requires chain { IfSome (D.image disk.old) (λ f. (places : List ℕ) × IsChain head.now f bucket places × (has_block place places ≡ true)) }
+    requires chain { IfSome (D.image disk.old) (λ f. (places : List ℕ)
+        × IsChain head.now f bucket places × (has_block place places ≡ true)) }
     requires size { IfSome (D.image disk.old) (λ f. length f ≤ 2 ^ 40) }
     // the file and its chains
     ensures written { IfInChain (D.image disk.old) head.now bucket place (λ f places. OnOk result
@@ -106,7 +120,11 @@ pub fn unlink<D: Disk>(
         IsChain head.now f other rest → AreApart f places rest
         → OnOk result (IfSome (D.image disk.new) (λ g. IsChain head.now g other rest))) }
     ensures told { is_some (D.image disk.new) ≡ is_some (D.image disk.old) }
-    // its counts
+    // what was read: the head and links, no more than the file can have
+    ensures cost { IfInChain (D.image disk.old) head.now bucket place (λ _ places.
+        D.taken_count disk.new ≤ D.taken_count disk.old + 8 + 8 * length places) }
+    ensures bound { IfSome (D.image disk.old) (λ f.
+        D.taken_count disk.new ≤ D.taken_count disk.old + 16 + 8 * (length f / 48)) }
     ensures more { D.taken_count disk.old ≤ D.taken_count disk.new }
     ensures cause { HasCause (D.fault_count disk.old) (D.fault_count disk.new) result }
     // a crash: the eight bytes of the cell are all that is written
@@ -128,7 +146,8 @@ pub fn unlink<D: Disk>(
         (Writes (cell_to (head_cell bucket) place places)
         (to_be_bytes w64 (link_in f place)) (D.past disk.old))) }
     ensures time_with { Elapses (D.moment disk.old) (D.moment disk.new)
-        (D.left_with disk.old) (D.left_with disk.new) (λ x. (x.0 ≡ D.past disk.new) × D.may_leave disk.new x.1) }
+        (D.left_with disk.old) (D.left_with disk.new)
+        (λ x. (x.0 ≡ D.past disk.new) × D.may_leave disk.new x.1) }
 {
     let len = disk.len()?;
     let Some(cell) = cell_of(disk, 64 + 8 * bucket, place, len)? else {

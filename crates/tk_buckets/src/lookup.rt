@@ -9,6 +9,7 @@ ghost use Rattle.tk_buckets.specs.Chain.{IsLinked, IsWhole};
 ghost use Rattle.tk_buckets.specs.Lookup.{IsBlockOf, body_in_block, read_of_block, read_of_chain, Finds};
 ghost use Rattle.tk_buckets.specs.Seen.{Sees, shown_block};
 
+use crate::read::read_bytes;
 use tk_block::{u16_at, u32_at, u64_at};
 use tk_disk::{Disk, DiskError};
 use tk_model::is_same;
@@ -35,21 +36,6 @@ pub struct FoundBlock {
     pub extent: u64,
     pub kind: u8,
     pub value_len: u32,
-}
-
-/// Fills the buffer with the bytes from a place on.
-fn read_bytes<D: Disk>(disk: &mut D, at: u64, into: &mut [u8]) -> Result<(), DiskError>
-    ensures bytes { IfSome (D.image disk.old) (λ f. at + length into.old ≤ length f
-        → OnOk result (into.new ≡ take (length into.old) (drop at f))) }
-    ensures cost { D.taken_count disk.new ≤ D.taken_count disk.old + length into.old }
-    ensures image { D.image disk.new ≡ D.image disk.old }
-    ensures more { D.taken_count disk.old ≤ D.taken_count disk.new }
-    ensures cause { HasCause (D.fault_count disk.old) (D.fault_count disk.new) result }
-    ensures still { OnlyReads D.may_leave D.moment D.left_since D.past D.left_with
-        disk.old disk.new }
-{
-    disk.read_at(at, into)?;
-    Ok(())
 }
 
 /// Reads bytes of a block at a place, those from one on up to the end, to where they stand in the buffer.
@@ -96,7 +82,8 @@ fn may_have(buffer: &[u8], key: &[u8]) -> bool
         && is_same(&key[..first], &buffer[KEY..KEY + first])
 }
 
-/// Whether the block at a place has the key. The buffer then has its bytes as far as its value ends, or the buffer does.
+/// Whether the block at a place has the key. The buffer then has the block's link, and where the block has the key, its
+/// front and as much of its value as there is room for.
 fn has_key_at<D: Disk>(
     disk: &mut D,
     place: u64,
@@ -141,8 +128,8 @@ fn shown_block(place: u64, buffer: &[u8]) -> FoundBlock
     }
 }
 
-/// The first block with the key in the chain that begins at a place, in a file of this length. The buffer then has its
-/// bytes, as far as its value ends or there is room. It goes to no more blocks than the file can have.
+/// The first block with the key in the chain that begins at a place, in a file no longer than this. Where there is one,
+/// the buffer has its value behind 40 bytes and the key, or as much of it as there is room for.
 pub fn find_block<D: Disk>(
     disk: &mut D,
     first: u64,
@@ -157,7 +144,7 @@ pub fn find_block<D: Disk>(
     ensures found { (h : StaticHead) (places : List ℕ) → IfSome (D.image disk.old) (λ f.
         IsLinked h f first places → IfOk result (Finds f key.now places buffer.new)) }
     ensures short { IfOk result (λ x. IfSome x (λ _. length key.now < 65536)) }
-    // what was read
+    // what was read: of each block on the way as much as it takes, and of no more blocks than the file can have
     ensures cost { (h : StaticHead) (places : List ℕ) → IfSome (D.image disk.old) (λ f.
         IsLinked h f first places → D.taken_count disk.new
         ≤ D.taken_count disk.old + read_of_chain f key.now (length buffer.old) places) }

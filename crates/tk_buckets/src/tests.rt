@@ -45,7 +45,8 @@ fn disk_of(alloc: Global, link: u64) -> Result<MemDisk, NoMemory> {
 fn two_blocks(rt: HostRuntime) -> Result<(), Fail> {
     let alloc = rt.alloc();
     let mut disk = disk_of(alloc, 120)?;
-    let places = chain(alloc, &mut disk, &one_bucket(), 0)?;
+    let len = disk.len()?;
+    let places = chain(alloc, &mut disk, 72, len)?;
     assert_eq!(rt; places.as_slice(), [72, 120].as_slice());
     Ok(())
 }
@@ -54,7 +55,8 @@ fn two_blocks(rt: HostRuntime) -> Result<(), Fail> {
 fn links_that_go_round(rt: HostRuntime) -> Result<(), Fail> {
     let alloc = rt.alloc();
     let mut disk = disk_of(alloc, 72)?;
-    let places = chain(alloc, &mut disk, &one_bucket(), 0)?;
+    let len = disk.len()?;
+    let places = chain(alloc, &mut disk, 72, len)?;
     assert_eq!(rt; places.as_slice(), [72, 72, 72].as_slice());
     Ok(())
 }
@@ -64,7 +66,9 @@ fn a_block_in_front(rt: HostRuntime) -> Result<(), Fail> {
     let alloc = rt.alloc();
     let mut disk = zeros(alloc)?;
     insert(&mut disk, &one_bucket(), 0, 120)?;
-    let places = chain(alloc, &mut disk, &one_bucket(), 0)?;
+    let len = disk.len()?;
+    let first = number_at(&mut disk, 64)?;
+    let places = chain(alloc, &mut disk, first, len)?;
     assert_eq!(rt; places.as_slice(), [120].as_slice());
     Ok(())
 }

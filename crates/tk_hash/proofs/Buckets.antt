@@ -18,7 +18,8 @@ use Rattle.tk_block.specs.Blocks.{body_of, extent_of, group_bodies, is_nil}
 use Rattle.tk_block.specs.Layout.{Placed, bucket_in, laid, end_of, bodies_of}
 use Rattle.tk_block.proofs.Layouts.{laid-append}
 use Rattle.tk_append.specs.Opening.{change_in}
-use Rattle.tk_hash.specs.Chain.{block_step, bucket_blocks, chain_of, in_bucket}
+use Rattle.tk_buckets.specs.Chain.{block_step, bucket_blocks}
+use Rattle.tk_hash.specs.Chain.{chain_of, in_bucket}
 use Rattle.tk_hash.specs.Shelf.{left_by}
 use Rattle.tk_hash.proofs.Chains.{bucket_blocks-append}
 

@@ -16,7 +16,8 @@ use Rattle.tk_block.specs.Text.{base_of}
 use Rattle.tk_block.specs.Blocks.{body_of, extent_of, group_bodies, is_nil}
 use Rattle.tk_block.specs.Layout.{Placed, bucket_in, laid, end_of, bodies_of}
 use Rattle.tk_block.proofs.Layouts.{laid-append}
-use Rattle.tk_hash.specs.Chain.{block_step, bucket_blocks, chain_of, value_in, value_by}
+use Rattle.tk_buckets.specs.Chain.{block_step, bucket_blocks}
+use Rattle.tk_hash.specs.Chain.{chain_of, value_in, value_by}
 
 -- a chain behind more blocks
 pub bucket_blocks-append : (p bucket : ℕ) (found xs ys : List Placed) → bucket_blocks p bucket found (xs ++ ys) ≡ bucket_blocks p bucket (bucket_blocks p bucket found xs) ys

@@ -1,6 +1,6 @@
 -- The number of records behind changes, one at a time.
 use Rattle.std.proofs.Common.{◌≡◌, ℕ, zero, suc, ◌+◌, ◌-◌, ◌<◌, Bool, true, false, cond, Option, Some, None, List, [], ◌∷◌, ◌++◌, length, get_or, take, refl, sym, ◌∙◌, ap, subst, inl, inr, arith}
-use Rattle.std.specs.Prelude.{if◌then◌else◌}
+use Rattle.std.specs.Prelude.{IfSome, if◌then◌else◌}
 use Rattle.std.specs.Option.{is_some}
 use Rattle.std.specs.declared.cmp.Ordering.{Ordering}
 use Rattle.std.specs.declared.cmp.Ordering.TheVariants.{Less, Equal, Greater}
@@ -15,7 +15,7 @@ use Rattle.tk_model.proofs.KeyOrders.{keys_apart, same_told, same_itself}
 use Rattle.tk_model.proofs.RecordLaws.{so_or_not, apart_greater, behind_earlier, none_behind, found_head, found_deeper, find_put_same, find_put_other, find_without_same, find_without_other, one_rising, after_rising}
 use Rattle.tk_model.proofs.NetChanges.{after_append}
 use Rattle.tk_block.specs.Blocks.{key_of}
-use Rattle.tk_hash.specs.Plan.{mark_in, marked, told_there, count_after}
+use Rattle.tk_hash.specs.Plan.{mark_in, told_there, TellThere}
 
 grow : (b : Bool) (n : ℕ) → suc (cond b n (n + 1)) ≡ cond b (suc n) (suc n + 1)
 grow true n = refl
@@ -60,10 +60,19 @@ with_dropped k (p ∷ ps) = picked (same_bytes k p.key) k p ps (without k ps) re
 length-without : (k : List ℕ) (m : List Pair) → length (without k m) ≡ cond (is_some (find k m)) (length m - 1) (length m)
 length-without k m = less (is_some (find k m)) (length (without k m)) (length m) (with_dropped k m)
 
-pub length-after_one : (c : Change) (m : List Pair) → Rising Hash m → length (after_one Hash c m) ≡ count_after c (length m) (is_some (find (key_of c) m))
-length-after_one (changes.Put p) m rising = length-put p m rising
-length-after_one (changes.Drop k) m rising = length-without k m
-length-after_one changes.Clear m rising = refl
+-- what a change of a key makes of the number of records
+module _ (m : List Pair) (count : ℕ) (there : Bool) (rising : Rising Hash m) (all : count ≡ length m) where
+  pub put_there : (p : Pair) → there ≡ is_some (find p.key m) → there ≡ true → count ≡ length (put Hash p m)
+  put_there p is told = all ∙ sym (length-put p m rising ∙ ap (λ (b : Bool). cond b (length m) (length m + 1)) (sym is ∙ told))
+
+  pub put_new : (p : Pair) (n : ℕ) → there ≡ is_some (find p.key m) → there ≡ false → n ≡ count + 1 → n ≡ length (put Hash p m)
+  put_new p n is told more = more ∙ ap (λ (k : ℕ). k + 1) all ∙ sym (length-put p m rising ∙ ap (λ (b : Bool). cond b (length m) (length m + 1)) (sym is ∙ told))
+
+  pub drop_there : (k : List ℕ) (n : ℕ) → there ≡ is_some (find k m) → there ≡ true → n ≡ count - 1 → n ≡ length (without k m)
+  drop_there k n is told fewer = fewer ∙ ap (λ (k : ℕ). k - 1) all ∙ sym (length-without k m ∙ ap (λ (b : Bool). cond b (length m - 1) (length m)) (sym is ∙ told))
+
+  pub drop_none : (k : List ℕ) → there ≡ is_some (find k m) → there ≡ false → count ≡ length (without k m)
+  drop_none k is told = all ∙ sym (length-without k m ∙ ap (λ (b : Bool). cond b (length m - 1) (length m)) (sym is ∙ told))
 
 -- the marks tell of each key whether it is there
 abbrev pub Tell : (marks first now : List Pair) → Type 0
@@ -91,36 +100,43 @@ tell_drop j marks first now rising tell k = elim (so_or_not (same_bytes k j)) [
       ap (λ (o : Option (List ℕ)). told_there o (is_some (find k first))) (find_put_other Hash k (mark_in (changes.Drop j)) marks other) ∙ tell k ∙ ap is_some (sym (find_without_other k j now other))
 ]
 
-pub tell_all : (cs : List Change) (marks first now : List Pair) → Rising Hash now → HasNoClear cs → Tell marks first now → Tell (marked cs marks) first (after Hash cs now)
-tell_all [] marks first now rising none tell = tell
-tell_all (changes.Put p ∷ cs) marks first now rising none tell = tell_all cs (put Hash (mark_in (changes.Put p)) marks) first (put Hash p now) (one_rising Hash (changes.Put p) now rising) none (tell_put p marks first now tell)
-tell_all (changes.Drop k ∷ cs) marks first now rising none tell = tell_all cs (put Hash (mark_in (changes.Drop k)) marks) first (without k now) (one_rising Hash (changes.Drop k) now rising) none (tell_drop k marks first now rising tell)
-tell_all (changes.Clear ∷ cs) marks first now rising none tell = absurd none
+tell_one : (c : Change) (marks first now : List Pair) → HasNoClear (c ∷ []) → Rising Hash now → Tell marks first now → Tell (put Hash (mark_in c) marks) first (after_one Hash c now)
+tell_one (changes.Put p) marks first now none rising tell = tell_put p marks first now tell
+tell_one (changes.Drop k) marks first now none rising tell = tell_drop k marks first now rising tell
+tell_one changes.Clear marks first now none rising tell = absurd none
 
-pub no_clear_front : (i : ℕ) (cs : List Change) → HasNoClear cs → HasNoClear (take i cs)
-no_clear_front zero cs none = tt
-no_clear_front (suc i) [] none = tt
-no_clear_front (suc i) (changes.Put p ∷ cs) none = no_clear_front i cs none
-no_clear_front (suc i) (changes.Drop k ∷ cs) none = no_clear_front i cs none
-no_clear_front (suc i) (changes.Clear ∷ cs) none = absurd none
+no_clear_at : (i : ℕ) (cs : List Change) (d : Change) → i < length cs → HasNoClear cs → HasNoClear (get_or cs i d ∷ [])
+no_clear_at i [] d within none = absurd (omega (arith, within))
+no_clear_at zero (changes.Put p ∷ cs) d within none = tt
+no_clear_at zero (changes.Drop k ∷ cs) d within none = tt
+no_clear_at zero (changes.Clear ∷ cs) d within none = absurd none
+no_clear_at (suc i) (changes.Put p ∷ cs) d within none = no_clear_at i cs d (omega (arith, within)) none
+no_clear_at (suc i) (changes.Drop k ∷ cs) d within none = no_clear_at i cs d (omega (arith, within)) none
+no_clear_at (suc i) (changes.Clear ∷ cs) d within none = absurd none
 
-marked-append : (cs ds : List Change) (marks : List Pair) → marked (cs ++ ds) marks ≡ marked ds (marked cs marks)
-marked-append [] ds marks = refl
-marked-append (c ∷ cs) ds marks = marked-append cs ds (put Hash (mark_in c) marks)
+pub tell_none : (marks : List Pair) → marks ≡ [] → TellThere [] marks
+tell_none marks is k m rising = ap (λ (l : List Pair). told_there (find k l) (is_some (find k m))) is
 
 -- the mark of one change more
-pub marked_more : (cs : List Change) (i j : ℕ) (d : Change) (marks : List Pair) → j ≡ i + 1 → i < length cs → marked (take j cs) marks ≡ put Hash (mark_in (get_or cs i d)) (marked (take i cs) marks)
-marked_more cs i j d marks is within =
-    ap (λ (n : ℕ). marked (take n cs) marks) is ∙ ap (λ (l : List Change). marked l marks) (take_more cs i d within) ∙ marked-append (take i cs) (get_or cs i d ∷ []) marks
+pub tell_more : (cs : List Change) (i j : ℕ) (d : Change) (marks : List Pair) → j ≡ i + 1 → i < length cs → HasNoClear cs → TellThere (take i cs) marks → TellThere (take j cs) (put Hash (mark_in (get_or cs i d)) marks)
+tell_more cs i j d marks is within none tell k m rising =
+    let c = get_or cs i d in
+    let now : List Pair = after Hash (take i cs) m in
+    let all : after Hash (take j cs) m ≡ after_one Hash c now =
+    ap (λ (n : ℕ). after Hash (take n cs) m) is ∙ ap (λ (l : List Change). after Hash l m) (take_more cs i d within) ∙ after_append Hash (take i cs) (c ∷ []) m in
+    tell_one c marks m now (no_clear_at i cs d within none) (after_rising Hash (take i cs) m rising) (λ q. tell q m rising) k ∙ ap (λ (l : List Pair). is_some (find k l)) (sym all)
 
 -- the count behind one change more
-pub counted_more : (cs : List Change) (i count n : ℕ) (c : Change) (there : Bool) (first : List Pair) → i < length cs → c ≡ get_or cs i c → Rising Hash first → HasNoClear cs
-    → count ≡ length (after Hash (take i cs) first) → there ≡ told_there (find (key_of c) (marked (take i cs) [])) (is_some (find (key_of c) first)) → n ≡ count_after c count there
+pub counted_more : (cs : List Change) (i count n : ℕ) (c : Change) (there : Bool) (marks first : List Pair) → i < length cs → c ≡ get_or cs i c → Rising Hash first
+    → count ≡ length (after Hash (take i cs) first) → TellThere (take i cs) marks → there ≡ told_there (find (key_of c) marks) (is_some (find (key_of c) first))
+    → ((m : List Pair) → Rising Hash m → count ≡ length m → there ≡ is_some (find (key_of c) m) → n ≡ length (after_one Hash c m))
     → n ≡ length (after Hash (take (i + 1) cs) first)
-counted_more cs i count n c there first within is rising none so_far told counted =
+counted_more cs i count n c there marks first within is rising so_far tell told counted =
     let now : List Pair = after Hash (take i cs) first in
-    let here : there ≡ is_some (find (key_of c) now) = told ∙ tell_all (take i cs) [] first first rising (no_clear_front i cs none) (λ k. refl) (key_of c) in
     let all : after Hash (take (i + 1) cs) first ≡ after_one Hash c now =
     ap (λ (l : List Change). after Hash l first) (take_more cs i c within ∙ ap (λ (x : Change). take i cs ++ x ∷ []) (sym is)) ∙ after_append Hash (take i cs) (c ∷ []) first in
-    counted ∙ ap (λ (k : ℕ). count_after c k there) so_far ∙ ap (λ (b : Bool). count_after c (length now) b) here
-    ∙ sym (ap length all ∙ length-after_one c now (after_rising Hash (take i cs) first rising))
+    counted now (after_rising Hash (take i cs) first rising) so_far (told ∙ tell (key_of c) first rising) ∙ ap length (sym all)
+
+pub counted_first : (o : Option (List ℕ)) (P : List ℕ → Type 0) (Q : Type 0) → IfSome o (λ f. P f → Q → Q)
+counted_first None P Q = tt
+counted_first (Some f) P Q = λ file is. is

@@ -27,7 +27,9 @@ use Rattle.tk_append.specs.FairPast.{IsFairPast}
 use Rattle.tk_append.proofs.Restoring.{reads_back}
 use Rattle.tk_append.proofs.FairPasts.{fair_more}
 use Rattle.tk_hash.specs.Fair.{KeepsFair}
-use Rattle.tk_hash.specs.Seek.{KnowsHeads, IsFound, KnowsKey, IsShelf}
+use Rattle.tk_hash.specs.Seek.{KnowsHeads, KnowsFile, IsFound, KnowsKey, IsShelf}
+use Rattle.tk_hash.specs.declared.seek.HeldFile.{HeldFile}
+use Rattle.tk_hash.proofs.Chained.{file_parts}
 use Rattle.tk_hash.specs.declared.found.FoundKey.{FoundKey}
 use Rattle.tk_hash.specs.Hash.{groups_held, KeepsGroups, map_in, HashStands, HashSafe, HashKeptSince}
 use Rattle.tk_hash.specs.HashLaws.{mapped, is_file, kept_held, fair_held, legal_held, records_are, kept_front, fair_each}
@@ -214,9 +216,15 @@ module _ {D : Type 0} (image : D → Option (List ℕ)) (may_leave : D → List 
   pub key_at : (s : HashStore D) (lent : D) (h : StaticHead) → IsWhole (HashStands image may_leave past) s → lent ≡ log_disk s.log → h ≡ log_head s.log → KnowsKey (image lent) h s.found
   key_at s lent h w at head = rw (at, head) w.3.found
 
-  -- and those of a disk that was lent
-  pub heads_at : (s : HashStore D) (lent : D) (h : StaticHead) (heads : List ℕ) → IsWhole (HashStands image may_leave past) s → lent ≡ log_disk s.log → h ≡ log_head s.log → heads ≡ s.heads.items → KnowsHeads (image lent) h heads
-  heads_at s lent h heads w at head same = rw (at, head, same) w.3.heads
+  -- the file is as long as the log says
+  file_end : (s : HashStore D) → IsWhole (HashStands image may_leave past) s → IfSome (image (log_disk s.log)) (λ f. length f ≡ log_end s.log)
+  file_end s w =
+      let st = w.3 in
+      IfSome_then (image (log_disk s.log)) (is_file image may_leave past s w.0 w.1 w.2 st) (λ f file. (file_parts (log_head s.log) f (st.groups ++ w.1) file).1 ∙ sym st.end_is)
+
+  -- what stands in memory, of a disk that was lent
+  pub file_at : (s : HashStore D) (lent : D) (m : HeldFile) → IsWhole (HashStands image may_leave past) s → lent ≡ log_disk s.log → m.head ≡ log_head s.log → m.heads.now ≡ s.heads.items → m.end ≡ log_end s.log → KnowsFile (image lent) m
+  file_at s lent m w at head heads end = record { heads_are = rw (at, head, heads) w.3.heads; end_is = rw (at, end) (file_end s w) }
 
   -- where the disk tells, the records are those of the groups
   pub map_is : (s : HashStore D) (first : First) (since : List Group) (hard : ℕ) → HashStands image may_leave past s first since hard → map_in image s ≡ option_map (λ f. replay Hash since first.records) (image (log_disk s.log))

@@ -1,23 +1,22 @@
 -- A search from bucket to bucket.
-use Rattle.std.proofs.Common.{◌≡◌, ℕ, ◌+◌, ◌-◌, ◌*◌, ◌<◌, ◌≤◌, ◌^◌, true, false, List, [], length, refl, sym, ◌∙◌, ap, subst, arith}
+use Rattle.std.proofs.Common.{◌≡◌, ℕ, ◌+◌, ◌-◌, ◌*◌, ◌<◌, ◌≤◌, ◌^◌, true, false, List, [], get_or, refl, sym, ◌∙◌, ap, subst, arith}
 use Rattle.std.specs.Prelude.{Option, Some, None, IfSome}
 use Rattle.std.specs.Option.{is_some}
-use Rattle.std.proofs.Math.Pow.{pow_mono}
 use Rattle.tk_model.specs.Records.{first_within, last_within, or_else, replay, Rising}
 use Rattle.tk_model.specs.declared.record.Order.TheVariants.{Hash}
 use Rattle.tk_model.specs.declared.record.Bound.{Bound}
 use Rattle.tk_model.specs.declared.record.Pair.{Pair}
 use Rattle.tk_model.specs.declared.record.Group.{Group}
 use Rattle.tk_model.proofs.RecordLaws.{replay_rising}
-use Rattle.tk_block.specs.Number.{u64_in}
 use Rattle.tk_block.specs.declared.head.StaticHead.{StaticHead}
 use Rattle.tk_append.specs.FileText.{IsFile}
 use Rattle.tk_store.specs.Hashed.{start_of, end_of}
 use Rattle.tk_hash.specs.Chain.{in_bucket}
-use Rattle.tk_hash.specs.Seek.{IsShelf}
+use Rattle.tk_hash.specs.Seek.{IsShelf, KnowsHeads}
 use Rattle.tk_hash.specs.declared.shelf.Shelf.{Shelf}
 use Rattle.tk_hash.proofs.InOrder.{from_bucket, below_bucket, from_start, before_end, first-append, last-append, from_split, below_split, from_later, below_earlier, from_all, below_all, bucket_small}
-use Rattle.tk_hash.proofs.Standing.{heads_within, none_at}
+use Rattle.tk_hash.proofs.Standing.{none_at}
+use Rattle.tk_hash.proofs.HashKeeps.{heads_in}
 
 some_else : (found rest : Option Pair) → is_some found ≡ true → or_else found rest ≡ found
 some_else (Some q) rest some = refl
@@ -42,9 +41,9 @@ ToldUp o h groups shelf b bucket = Told o h groups shelf (λ m. first_within Has
 abbrev pub ToldDown : (o : Option (List ℕ)) (h : StaticHead) (groups : List Group) (shelf : Option Shelf) → Bound → (end : ℕ) → Type 0
 ToldDown o h groups shelf b end = Told o h groups shelf (λ m. last_within Hash b (below_bucket h.p end m) ≡ last_within Hash b m)
 
--- so many heads from one on are 0
-abbrev pub AreEmpty : (o : Option (List ℕ)) (reach from end : ℕ) → Type 0
-AreEmpty o reach from end = IfSome o (λ f. 64 + 8 * reach ≤ length f → (i : ℕ) → from ≤ i → i < end → u64_in f (64 + 8 * i) ≡ 0)
+-- these heads, from one on, are 0
+abbrev pub AreEmpty : (heads : List ℕ) (from end : ℕ) → Type 0
+AreEmpty heads from end = (i : ℕ) → from ≤ i → i < end → get_or heads i 0 ≡ 0
 
 pub shelf_kept : (o : Option (List ℕ)) (h : StaticHead) (groups : List Group) (before mid after : Option Shelf) → ShelfKept o h groups before mid → ShelfKept o h groups mid after → ShelfKept o h groups before after
 shelf_kept None h groups before mid after first second = tt
@@ -102,29 +101,29 @@ module _ (h : StaticHead) (groups : List Group) (b : Bound) where
       sym (sym (down file held) ∙ split_down bucket end next ∙ ap (λ (a : Option Pair). or_else a rest) (sym (is file (kept file held))) ∙ some_else found rest some)
 
   -- the buckets with these heads have no records
-  none_between : (f : List ℕ) (reach from end : ℕ) → IsFile h f groups → reach ≤ 2 ^ h.p → end ≤ 2 ^ h.p → AreEmpty (Some f) reach from end → (j : ℕ) → from ≤ j → j < end → in_bucket h.p j (replay Hash groups []) ≡ []
-  none_between f reach from end file low within empty j least below =
-      none_at h f groups j (omega arith) file (empty (omega (arith, heads_within h f groups file)) j least below)
+  none_between : (f heads : List ℕ) (from end : ℕ) → KnowsHeads (Some f) h heads → IsFile h f groups → end ≤ 2 ^ h.p → AreEmpty heads from end → (j : ℕ) → from ≤ j → j < end → in_bucket h.p j (replay Hash groups []) ≡ []
+  none_between f heads from end know file within empty j least below =
+      none_at h f groups j (omega arith) file (sym ((heads_in (Some f) h heads groups know file).newest_each j (omega arith)) ∙ empty j least below)
 
   -- the record is in a later bucket
-  pub later_up : (o : Option (List ℕ)) (before mid : Option Shelf) (bucket reach next : ℕ) (found : Option Pair) → is_some found ≡ false → reach ≤ 2 ^ h.p → bucket + 1 ≤ next → next ≤ 2 ^ h.p → ShelfKept o h groups before mid
-      → ToldUp o h groups before b bucket → Told o h groups mid (λ m. found ≡ first_within Hash b (in_bucket h.p bucket m)) → AreEmpty o reach (bucket + 1) next → ToldUp o h groups before b next
-  later_up None before mid bucket reach next found none low least most kept up is empty = tt
-  later_up (Some f) before mid bucket reach next found none low least most kept up is empty = λ file held.
+  pub later_up : (o : Option (List ℕ)) (before mid : Option Shelf) (bucket next : ℕ) (heads : List ℕ) (found : Option Pair) → is_some found ≡ false → bucket + 1 ≤ next → next ≤ 2 ^ h.p → KnowsHeads o h heads → ShelfKept o h groups before mid
+      → ToldUp o h groups before b bucket → Told o h groups mid (λ m. found ≡ first_within Hash b (in_bucket h.p bucket m)) → AreEmpty heads (bucket + 1) next → ToldUp o h groups before b next
+  later_up None before mid bucket next heads found none least most know kept up is empty = tt
+  later_up (Some f) before mid bucket next heads found none least most know kept up is empty = λ file held.
       let m = replay Hash groups [] in
       let rest = first_within Hash b (from_bucket h.p (bucket + 1) m) in
       let passed : from_bucket h.p (bucket + 1) m ≡ from_bucket h.p next m =
-      from_later h.p (bucket + 1) (next - (bucket + 1)) next m rising (omega arith) (none_between f reach (bucket + 1) next file low most empty) in
+      from_later h.p (bucket + 1) (next - (bucket + 1)) next m rising (omega arith) (none_between f heads (bucket + 1) next know file most empty) in
       sym (ap (first_within Hash b) passed) ∙ sym (split_up bucket ∙ ap (λ (a : Option Pair). or_else a rest) (sym (is file (kept file held))) ∙ none_else found rest none) ∙ up file held
 
-  pub later_down : (o : Option (List ℕ)) (before mid : Option Shelf) (bucket end next : ℕ) (found : Option Pair) → end ≡ bucket + 1 → is_some found ≡ false → bucket ≤ 2 ^ h.p → next ≤ bucket → ShelfKept o h groups before mid
-      → ToldDown o h groups before b end → Told o h groups mid (λ m. found ≡ last_within Hash b (in_bucket h.p bucket m)) → AreEmpty o bucket next bucket → ToldDown o h groups before b next
-  later_down None before mid bucket end next found follows none most low kept down is empty = tt
-  later_down (Some f) before mid bucket end next found follows none most low kept down is empty = λ file held.
+  pub later_down : (o : Option (List ℕ)) (before mid : Option Shelf) (bucket end next : ℕ) (heads : List ℕ) (found : Option Pair) → end ≡ bucket + 1 → is_some found ≡ false → bucket ≤ 2 ^ h.p → next ≤ bucket → KnowsHeads o h heads → ShelfKept o h groups before mid
+      → ToldDown o h groups before b end → Told o h groups mid (λ m. found ≡ last_within Hash b (in_bucket h.p bucket m)) → AreEmpty heads next bucket → ToldDown o h groups before b next
+  later_down None before mid bucket end next heads found follows none most low know kept down is empty = tt
+  later_down (Some f) before mid bucket end next heads found follows none most low know kept down is empty = λ file held.
       let m = replay Hash groups [] in
       let rest = last_within Hash b (below_bucket h.p bucket m) in
       let passed : below_bucket h.p bucket m ≡ below_bucket h.p next m =
-      below_earlier h.p next (bucket - next) bucket m rising (omega arith) (none_between f bucket next bucket file most most empty) in
+      below_earlier h.p next (bucket - next) bucket m rising (omega arith) (none_between f heads next bucket know file most empty) in
       sym (ap (last_within Hash b) passed) ∙ sym (split_down bucket end follows ∙ ap (λ (a : Option Pair). or_else a rest) (sym (is file (kept file held))) ∙ none_else found rest none) ∙ down file held
 
   -- there is no bucket more
@@ -139,7 +138,3 @@ module _ (h : StaticHead) (groups : List Group) (b : Bound) where
   none_down (Some f) shelf end over down = λ file held.
       let m = replay Hash groups [] in
       sym (ap (last_within Hash b) (ap (λ (n : ℕ). below_bucket h.p n m) over ∙ below_all h.p m)) ∙ down file held
-
--- there are at most 2^24 buckets
-pub few_buckets : (p : ℕ) → p ≤ 24 → 2 ^ p ≤ 2 ^ 24
-few_buckets p small = pow_mono {i = p} {j = 24} small

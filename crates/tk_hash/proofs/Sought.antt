@@ -1,129 +1,107 @@
--- A walk along a chain.
-use Rattle.std.proofs.Common.{◌≡◌, ◌≢◌, ℕ, ◌+◌, ◌*◌, ◌<◌, ◌≤◌, ◌^◌, List, [], ◌∷◌, length, take, drop, refl, sym, ◌∙◌, ap, subst, arith}
-use Rattle.std.specs.Prelude.{Bool, true, false, Option, Some, None, Result, Ok, Err, IfOk, IfSome, slice_index, if◌then◌else◌}
-use Rattle.tk_model.specs.declared.record.Group.{Group}
-use Rattle.tk_model.proofs.KeyOrders.{same_told}
+-- What the first block of a key in a chain says of the records, and what was read to find it.
+use Rattle.std.proofs.Common.{◌≡◌, ℕ, ◌+◌, ◌-◌, ◌≤◌, List, [], ◌∷◌, length, take, refl, sym, ◌∙◌, ap, subst, arith}
+use Rattle.std.specs.Prelude.{Bool, true, false, min, max, Option, Some, None, if◌then◌else◌, ◌==◌, ◌&&◌}
+use Rattle.std.proofs.lemmas.Bool.{eq-eqb}
+use Rattle.tk_model.specs.Orders.{same_bytes}
+use Rattle.tk_model.proofs.KeyOrders.{same_itself}
+use Rattle.tk_block.specs.Blocks.{extent_of, room_of}
+use Rattle.tk_block.specs.Layout.{Placed}
+use Rattle.tk_block.specs.declared.block.Body.{Body}
 use Rattle.tk_block.specs.declared.head.StaticHead.{StaticHead}
-use Rattle.tk_block.specs.Number.{u64_in}
-use Rattle.tk_block.specs.Blocks.{extent_of}
-use Rattle.tk_block.specs.Layout.{Placed, bucket_in, newest}
-use Rattle.tk_append.specs.Log.{blocks_of}
-use Rattle.tk_append.specs.FileText.{IsFile}
-use Rattle.tk_hash.specs.Chain.{chain_of, value_in, value_by, extents}
-use Rattle.tk_hash.specs.Linked.{StandsAt, IsChained, Sees, Decides, Left, bytes_shown}
-use Rattle.tk_hash.specs.Seek.{KnowsHeads}
-use Rattle.tk_hash.proofs.Chained.{newest_chained}
-use Rattle.tk_hash.proofs.HashKeeps.{heads_in}
+use Rattle.tk_buckets.specs.Chain.{places_in}
+use Rattle.tk_buckets.specs.Lookup.{StandsAt, AllStand, body_in_block, has_key, place_of, may_have, read_of_block, read_of_chain}
+use Rattle.tk_hash.specs.Chain.{value_in, value_by, extents}
 
--- ---- the head of a bucket
+one_body : (a b : Body) → Some a ≡ Some b → a ≡ b
+one_body a b e = cc
 
-pub head_told : (o : Option (List ℕ)) (h : StaticHead) (heads key : List ℕ) (first : ℕ) (groups : List Group) → KnowsHeads o h heads → first ≡ slice_index heads (bucket_in h.p key) → bucket_in h.p key < 2 ^ h.p
-    → IfSome o (λ f. IsFile h f groups → IsChained f first (chain_of h (bucket_in h.p key) groups))
-head_told None h heads key first groups know is below = tt
-head_told (Some f) h heads key first groups know is below = λ file.
-    let head : first ≡ newest h.p (bucket_in h.p key) 0 (blocks_of h groups) = is ∙ (heads_in (Some f) h heads groups know file).newest_each (bucket_in h.p key) below in
-    subst (λ (k : ℕ). IsChained f k (chain_of h (bucket_in h.p key) groups)) (sym head) (newest_chained h f groups (bucket_in h.p key) file)
+one_place : (a b : ℕ) → Some a ≡ Some b → a ≡ b
+one_place a b e = cc
 
--- ---- one block more
+read_by : (t : Bool) (b : Body) (room : ℕ) → (if t then max 48 (min (room_of b - 4) room) else 48) ≤ extent_of b
+read_by true b room = omega arith
+read_by false b room = omega arith
 
-shown_most : (x : Placed) (room : ℕ) → bytes_shown x.body room ≤ extent_of x.body
-shown_most x room = omega arith
+here_sum : (read e s r : ℕ) → read ≡ r + 0 → read + e ≤ e + s + r
+here_sum read e s r is = omega (arith, is)
 
--- what is seen of the block at a place
-abbrev pub SeenAt : (key buffer : List ℕ) (place : ℕ) (has : Bool) → List ℕ → Type 0
-SeenAt key buffer place has f = (x : Placed) (k : ℕ) → StandsAt f x k → x.place ≡ place → Sees key x.body k buffer has
+more_sum : (read first rest e s extent r : ℕ) → read ≡ first + rest → first ≤ e → rest + extent ≤ s + r → read + extent ≤ e + s + r
+more_sum read first rest e s extent r is small deeper = omega (arith, is, small, deeper)
 
-abbrev pub CostsAt : (place mid now room : ℕ) → List ℕ → Type 0
-CostsAt place mid now room f = (x : Placed) (k : ℕ) → StandsAt f x k → x.place ≡ place → now ≤ mid + bytes_shown x.body room
+all_sum : (read first rest e s : ℕ) → read ≡ first + rest → first ≤ e → rest ≤ s → read ≤ e + s
+all_sum read first rest e s is small deeper = omega (arith, is, small, deeper)
 
-module _ (key : List ℕ) (xs : List Placed) (f : List ℕ) (before mid now place room : ℕ) where
-  cost_from : (rest : List Placed) → place ≢ 0 → IsChained f place rest → mid + extents rest ≤ before + extents xs → CostsAt place mid now room f → now ≤ before + extents xs
-  cost_from [] some chained cost costs = absurd (some chained)
-  cost_from (x ∷ ys) some chained cost costs = omega (arith, costs x chained.1 chained.2 (sym chained.0), cost, shown_most x room)
+module _ (h : StaticHead) (f key : List ℕ) (room : ℕ) where
+  -- no block has the key
+  none_by : (t : Bool) (x : Placed) (xs : List Placed) → same_bytes key x.body.key ≡ t → StandsAt h f x → (place_of f key (places_in xs) ≡ None → value_by key xs ≡ None)
+      → place_of f key (x.place ∷ places_in xs) ≡ None → value_by key (x ∷ xs) ≡ None
+  none_by true x xs is here deeper none =
+      let has : has_key key (body_in_block f x.place) ≡ true = ap (has_key key) here.says ∙ is in
+      let found : place_of f key (x.place ∷ places_in xs) ≡ Some x.place = ap (λ (b : Bool). if b then Some x.place else place_of f key (places_in xs)) has in
+      absurd (cc (found, none))
+  none_by false x xs is here deeper none =
+      let has : has_key key (body_in_block f x.place) ≡ false = ap (has_key key) here.says ∙ is in
+      let further : place_of f key (x.place ∷ places_in xs) ≡ place_of f key (places_in xs) = ap (λ (b : Bool). if b then Some x.place else place_of f key (places_in xs)) has in
+      ap (λ (b : Bool). if b then value_in x.body else value_by key xs) is ∙ deeper (sym further ∙ none)
 
-  next_from : (buffer : List ℕ) (link : ℕ) (rest : List Placed) → place ≢ 0 → IsChained f place rest → value_by key xs ≡ value_by key rest → mid + extents rest ≤ before + extents xs → SeenAt key buffer place false f → CostsAt place mid now room f
-      → link ≡ u64_in buffer 16 → Left key xs f before now link × (link < place)
-  next_from buffer link [] some chained value cost sees costs is = absurd (some chained)
-  next_from buffer link (x ∷ ys) some chained value cost sees costs is =
-      let s = sees x chained.1 chained.2 (sym chained.0) in
-      let same : link ≡ chained.1 = is ∙ s.link_is in (
-        record {
-          rest = ys;
-          chained = subst (λ (k : ℕ). IsChained f k ys) (sym same) chained.3;
-          value = value ∙ ap (λ (t : Bool). if t then value_in x.body else value_by key ys) (sym s.told);
-          cost = omega (arith, costs x chained.1 chained.2 (sym chained.0), cost, shown_most x room);
-        },
-        omega (arith, same, chained.2.down, chained.0),
-      )
+  pub value_none : (xs : List Placed) → AllStand h f xs → place_of f key (places_in xs) ≡ None → value_by key xs ≡ None
+  value_none [] all none = refl
+  value_none (x ∷ xs) all none = none_by (same_bytes key x.body.key) x xs refl all.0 (value_none xs all.1) none
 
-  here_from : (buffer : List ℕ) (rest : List Placed) → place ≢ 0 → IsChained f place rest → value_by key xs ≡ value_by key rest → mid + extents rest ≤ before + extents xs → SeenAt key buffer place true f
-      → CostsAt place mid now (length buffer) f → Decides key xs f buffer before now place
-  here_from buffer [] some chained value cost sees costs = absurd (some chained)
-  here_from buffer (x ∷ ys) some chained value cost sees costs =
-      let s = sees x chained.1 chained.2 (sym chained.0) in
+  -- the first that has it
+  pub record Decides (xs : List Placed) (b : Body) : Type 0 where
+    pub value : value_by key xs ≡ value_in b
+    pub left : read_of_chain f key room (places_in xs) + extent_of b ≤ extents xs + read_of_block key room (Some b)
+
+  read_first : (t : Bool) (x : Placed) (xs : List Placed) → same_bytes key x.body.key ≡ t → StandsAt h f x
+      → read_of_chain f key room (places_in (x ∷ xs)) ≡ read_of_block key room (Some x.body) + (if t then 0 else read_of_chain f key room (places_in xs))
+  read_first t x xs is here =
+      ap (λ (o : Option Body). read_of_block key room o + (if has_key key o then 0 else read_of_chain f key room (places_in xs))) here.says
+      ∙ ap (λ (s : Bool). read_of_block key room (Some x.body) + (if s then 0 else read_of_chain f key room (places_in xs))) is
+
+  first_by : (t : Bool) (x : Placed) (xs : List Placed) (q : ℕ) (b : Body) → same_bytes key x.body.key ≡ t → StandsAt h f x → body_in_block f q ≡ Some b
+      → (place_of f key (places_in xs) ≡ Some q → Decides xs b) → place_of f key (x.place ∷ places_in xs) ≡ Some q → Decides (x ∷ xs) b
+  first_by true x xs q b is here says deeper found =
+      let has : has_key key (body_in_block f x.place) ≡ true = ap (has_key key) here.says ∙ is in
+      let first : place_of f key (x.place ∷ places_in xs) ≡ Some x.place = ap (λ (b : Bool). if b then Some x.place else place_of f key (places_in xs)) has in
+      let at : x.place ≡ q = one_place x.place q (sym first ∙ found) in
+      let same : x.body ≡ b = one_body x.body b (sym here.says ∙ ap (body_in_block f) at ∙ says) in
+      let value : value_by key (x ∷ xs) ≡ value_in x.body = ap (λ (b : Bool). if b then value_in x.body else value_by key xs) is in
+      let left : read_of_chain f key room (places_in (x ∷ xs)) + extent_of x.body ≤ extents (x ∷ xs) + read_of_block key room (Some x.body) =
+      here_sum (read_of_chain f key room (places_in (x ∷ xs))) (extent_of x.body) (extents xs) (read_of_block key room (Some x.body)) (read_first true x xs is here) in
+      let decides : Decides (x ∷ xs) x.body = record { value = value; left = left } in
+      subst (λ (y : Body). Decides (x ∷ xs) y) same decides
+  first_by false x xs q b is here says deeper found =
+      let has : has_key key (body_in_block f x.place) ≡ false = ap (has_key key) here.says ∙ is in
+      let further : place_of f key (x.place ∷ places_in xs) ≡ place_of f key (places_in xs) = ap (λ (b : Bool). if b then Some x.place else place_of f key (places_in xs)) has in
+      let d = deeper (sym further ∙ found) in
       record {
-        block = x;
-        link = chained.1;
-        stands = chained.2;
-        at = sym chained.0;
-        key_is = sym (same_told key x.body.key (sym s.told));
-        shows = s.shows refl;
-        value = value ∙ ap (λ (t : Bool). if t then value_in x.body else value_by key ys) (sym s.told);
-        left = omega (arith, costs x chained.1 chained.2 (sym chained.0), cost);
+        value = ap (λ (b : Bool). if b then value_in x.body else value_by key xs) is ∙ d.value;
+        left =
+            more_sum (read_of_chain f key room (places_in (x ∷ xs))) (read_of_block key room (Some x.body)) (read_of_chain f key room (places_in xs)) (extent_of x.body) (extents xs) (extent_of b) (read_of_block key room (Some b))
+            (read_first false x xs is here) (read_by (may_have key x.body) x.body room) d.left;
       }
 
-none_from : (key f : List ℕ) (xs rest : List Placed) (place : ℕ) → place ≡ 0 → IsChained f place rest → value_by key xs ≡ value_by key rest → value_by key xs ≡ None
-none_from key f xs [] place none chained value = value
-none_from key f xs (x ∷ ys) place none chained value = absurd (omega (arith, none, chained.0, chained.2.down))
+  pub value_first : (xs : List Placed) (q : ℕ) (b : Body) → AllStand h f xs → body_in_block f q ≡ Some b → place_of f key (places_in xs) ≡ Some q → Decides xs b
+  value_first [] q b all says found = absurd (cc (found))
+  value_first (x ∷ xs) q b all says found = first_by (same_bytes key x.body.key) x xs q b refl all.0 says (value_first xs q b all.1 says) found
 
--- ---- where the disk tells the file
+  -- a look-up reads no more than the blocks take
+  cost_by : (t : Bool) (x : Placed) (xs : List Placed) → same_bytes key x.body.key ≡ t → StandsAt h f x → read_of_chain f key room (places_in xs) ≤ extents xs → read_of_chain f key room (places_in (x ∷ xs)) ≤ extents (x ∷ xs)
+  cost_by true x xs is here deeper =
+      all_sum (read_of_chain f key room (places_in (x ∷ xs))) (read_of_block key room (Some x.body)) 0 (extent_of x.body) (extents xs) (read_first true x xs is here) (read_by (may_have key x.body) x.body room) (omega arith)
+  cost_by false x xs is here deeper =
+      all_sum (read_of_chain f key room (places_in (x ∷ xs))) (read_of_block key room (Some x.body)) (read_of_chain f key room (places_in xs)) (extent_of x.body) (extents xs) (read_first false x xs is here) (read_by (may_have key x.body) x.body room) deeper
 
-abbrev pub ToldLeft : (key : List ℕ) (o : Option (List ℕ)) (first : ℕ) (xs : List Placed) (before now place : ℕ) → Type 0
-ToldLeft key o first xs before now place = IfSome o (λ f. IsChained f first xs → Left key xs f before now place)
+  pub cost_all : (xs : List Placed) → AllStand h f xs → read_of_chain f key room (places_in xs) ≤ extents xs
+  cost_all [] all = omega arith
+  cost_all (x ∷ xs) all = cost_by (same_bytes key x.body.key) x xs refl all.0 (cost_all xs all.1)
 
--- at each block
-abbrev pub AtEach : Option (List ℕ) → (place : ℕ) → (Placed → ℕ → Type 0) → Type 0
-AtEach o place P = (x : Placed) (k : ℕ) → IfSome o (λ f. StandsAt f x k → x.place ≡ place → P x k)
+may_have_own : (key : List ℕ) (b : Body) → b.key ≡ key → may_have key b ≡ true
+may_have_own key b is =
+    let n = min (length key) 8 in
+    ap (λ (t : Bool). t && same_bytes (take n key) (take n b.key)) (eq-eqb _ _ (ap length is)) ∙ ap (λ (l : List ℕ). same_bytes (take n key) (take n l)) is ∙ same_itself (take n key)
 
-each_told : (f : List ℕ) (mid : Option (List ℕ)) (place : ℕ) (P : Placed → ℕ → Type 0) → mid ≡ Some f → AtEach mid place P → (x : Placed) (k : ℕ) → StandsAt f x k → x.place ≡ place → P x k
-each_told f mid place P is each x k = subst (λ (o : Option (List ℕ)). IfSome o (λ f. StandsAt f x k → x.place ≡ place → P x k)) is (each x k)
-
-module _ (key : List ℕ) (mid : Option (List ℕ)) (first : ℕ) (xs : List Placed) (before was now place room : ℕ) where
-  pub cost_so_far : (o : Option (List ℕ)) → mid ≡ o → place ≢ 0 → AtEach mid place (λ x k. now ≤ was + bytes_shown x.body room) → ToldLeft key o first xs before was place → IfSome o (λ f. IsChained f first xs → now ≤ before + extents xs)
-  cost_so_far None is some costs left = tt
-  cost_so_far (Some f) is some costs left = λ chained.
-      let l = left chained in
-      cost_from key xs f before was now place room l.rest some l.chained l.cost (each_told f mid place (λ x k. now ≤ was + bytes_shown x.body room) is costs)
-
-  pub goes_on : (o : Option (List ℕ)) (buffer : List ℕ) (link : ℕ) (has : Bool) → mid ≡ o → place ≢ 0 → has ≡ false → AtEach mid place (λ x k. Sees key x.body k buffer has) → AtEach mid place (λ x k. now ≤ was + bytes_shown x.body room) → link ≡ u64_in buffer 16
-      → ToldLeft key o first xs before was place → ToldLeft key o first xs before now link
-  goes_on None buffer link has is some told sees costs same left = tt
-  goes_on (Some f) buffer link has is some told sees costs same left = λ chained.
-      let l = left chained in
-      (next_from key xs f before was now place room buffer link l.rest some l.chained l.value l.cost (subst (λ (t : Bool). SeenAt key buffer place t f) told (each_told f mid place (λ x k. Sees key x.body k buffer has) is sees))
-      (each_told f mid place (λ x k. now ≤ was + bytes_shown x.body room) is costs) same).0
-
-  pub no_way_up : (o : Option (List ℕ)) (buffer : List ℕ) (link : ℕ) (has : Bool) → mid ≡ o → place ≢ 0 → has ≡ false → AtEach mid place (λ x k. Sees key x.body k buffer has) → AtEach mid place (λ x k. now ≤ was + bytes_shown x.body room) → link ≡ u64_in buffer 16 → place ≤ link
-      → ToldLeft key o first xs before was place → IfSome o (λ f. IsChained f first xs → value_by key xs ≡ None)
-  no_way_up None buffer link has is some told sees costs same up left = tt
-  no_way_up (Some f) buffer link has is some told sees costs same up left = λ chained.
-      let l = left chained in
-      let down = (next_from key xs f before was now place room buffer link l.rest some l.chained l.value l.cost (subst (λ (t : Bool). SeenAt key buffer place t f) told (each_told f mid place (λ x k. Sees key x.body k buffer has) is sees))
-      (each_told f mid place (λ x k. now ≤ was + bytes_shown x.body room) is costs) same).1 in
-      absurd (omega (arith, down, up))
-
-  pub here : (o : Option (List ℕ)) (buffer : List ℕ) (has : Bool) → mid ≡ o → place ≢ 0 → has ≡ true → AtEach mid place (λ x k. Sees key x.body k buffer has) → AtEach mid place (λ x k. now ≤ was + bytes_shown x.body room) → length buffer ≡ room
-      → ToldLeft key o first xs before was place → IfSome o (λ f. IsChained f first xs → Decides key xs f buffer before now place)
-  here None buffer has is some told sees costs long left = tt
-  here (Some f) buffer has is some told sees costs long left = λ chained.
-      let l = left chained in
-      here_from key xs f before was now place (length buffer) buffer l.rest some l.chained l.value l.cost (subst (λ (t : Bool). SeenAt key buffer place t f) told (each_told f mid place (λ x k. Sees key x.body k buffer has) is sees))
-      (subst (λ (n : ℕ). CostsAt place was now n f) (sym long) (each_told f mid place (λ x k. now ≤ was + bytes_shown x.body room) is costs))
-
-pub ends : (key : List ℕ) (o : Option (List ℕ)) (first : ℕ) (xs : List Placed) (before now place : ℕ) → place ≡ 0 → ToldLeft key o first xs before now place → IfSome o (λ f. IsChained f first xs → value_by key xs ≡ None)
-ends key None first xs before now place none left = tt
-ends key (Some f) first xs before now place none left = λ chained. let l = left chained in none_from key f xs l.rest place none l.chained l.value
-
-pub cost_left : (key : List ℕ) (o : Option (List ℕ)) (first : ℕ) (xs : List Placed) (before now place : ℕ) → ToldLeft key o first xs before now place → IfSome o (λ f. IsChained f first xs → now ≤ before + extents xs)
-cost_left key None first xs before now place left = tt
-cost_left key (Some f) first xs before now place left = λ chained. let l = left chained in omega (arith, l.cost)
+-- what the buffer has of the value was read
+pub read_own : (key : List ℕ) (room : ℕ) (b : Body) → b.key ≡ key → read_of_block key room (Some b) ≡ max 48 (min (room_of b - 4) room)
+read_own key room b is = ap (λ (t : Bool). if t then max 48 (min (room_of b - 4) room) else 48) (may_have_own key b is)

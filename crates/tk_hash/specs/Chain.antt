@@ -4,19 +4,11 @@ use Rattle.tk_model.specs.Orders.{same_bytes}
 use Rattle.tk_model.specs.declared.record.Pair.{Pair}
 use Rattle.tk_model.specs.declared.record.Group.{Group}
 use Rattle.tk_block.specs.Blocks.{extent_of}
-use Rattle.tk_block.specs.Layout.{Placed, bucket_in, is_in}
+use Rattle.tk_block.specs.Layout.{Placed, bucket_in}
+use Rattle.tk_buckets.specs.Chain.{bucket_blocks}
 use Rattle.tk_block.specs.declared.block.Body.{Body}
 use Rattle.tk_block.specs.declared.head.StaticHead.{StaticHead}
 use Rattle.tk_append.specs.Log.{blocks_of}
-
--- a block more: a clear empties the bucket, a set or remove block of it is its newest
-abbrev pub block_step : (p bucket : ℕ) → List Placed → Placed → List Placed
-block_step p bucket found x = if x.body.kind == 4 then [] else (if is_in p bucket x.body then x ∷ found else found)
-
--- the set and remove blocks of a bucket since the last clear, the newest first, in front of those that were found
-abbrev pub bucket_blocks : (p bucket : ℕ) → (found : List Placed) → List Placed → List Placed
-bucket_blocks p bucket found [] = found
-bucket_blocks p bucket found (x ∷ xs) = bucket_blocks p bucket (block_step p bucket found x) xs
 
 -- the chain of a bucket in a file of groups
 abbrev pub chain_of : StaticHead → (bucket : ℕ) → List Group → List Placed

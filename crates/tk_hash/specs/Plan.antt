@@ -9,7 +9,7 @@ use Rattle.tk_model.specs.declared.record.Pair.{Pair}
 use Rattle.tk_model.specs.declared.record.Group.{Group}
 use Rattle.tk_model.specs.declared.record.Change.{Change}
 use Rattle.tk_model.specs.declared.record.Change.TheVariants as changes
-use Rattle.tk_model.specs.Records.{put}
+use Rattle.tk_model.specs.Records.{find, after, Rising}
 use Rattle.tk_block.specs.Blocks.{is_nil}
 use Rattle.tk_disk.specs.Past.{Past}
 use Rattle.tk_disk.specs.Crash.{Torn, Follows, LeavesOnly}
@@ -64,18 +64,11 @@ mark_in (changes.Put p) = record { key = p.key; value = 1 ∷ [] }
 mark_in (changes.Drop k) = record { key = k; value = [] }
 mark_in changes.Clear = record { key = []; value = [] }
 
--- the last mark of each key
-abbrev pub marked : List Change → List Pair → List Pair
-marked [] marks = marks
-marked (c ∷ cs) marks = marked cs (put Hash (mark_in c) marks)
-
 -- a key is there by its mark, or else as it was
 abbrev pub told_there : (mark : Option (List ℕ)) → (was : Bool) → Bool
 told_there None was = was
 told_there (Some v) was = not (is_nil v)
 
--- the number of records behind a change of a key that was there or not
-abbrev pub count_after : Change → (count : ℕ) → (there : Bool) → ℕ
-count_after (changes.Put p) count there = if there then count else count + 1
-count_after (changes.Drop k) count there = if there then count - 1 else count
-count_after changes.Clear count there = 0
+-- the marks tell of each key whether a record has it behind these changes, whatever the records were before
+abbrev pub TellThere : List Change → (marks : List Pair) → Type 0
+TellThere cs marks = (k : List ℕ) (m : List Pair) → Rising Hash m → told_there (find k marks) (is_some (find k m)) ≡ is_some (find k (after Hash cs m))

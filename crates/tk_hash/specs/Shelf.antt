@@ -1,4 +1,4 @@
--- Blocks that stand in a file, and the records that those of a bucket leave.
+-- The records that the blocks of a bucket leave.
 use Rattle.std.specs.Prelude.{◌≡◌, ℕ, List, [], ◌∷◌, Option, Some, None}
 use Rattle.tk_model.specs.Records.{after_one, replay}
 use Rattle.tk_model.specs.declared.record.Order.TheVariants.{Hash}
@@ -8,21 +8,7 @@ use Rattle.tk_block.specs.Layout.{Placed}
 use Rattle.tk_append.specs.Opening.{change_in}
 use Rattle.tk_block.specs.declared.head.StaticHead.{StaticHead}
 use Rattle.tk_hash.specs.Chain.{in_bucket}
-use Rattle.tk_hash.specs.Linked.{StandsAt}
 use Rattle.tk_hash.specs.declared.shelf.Shelf.{Shelf}
-
--- the text of a block stands at its place, with some link
-pub record StandsIn (f : List ℕ) (x : Placed) : Type 0 where
-  pub link : ℕ
-  pub stands : StandsAt f x link
-
-abbrev pub AllStand : List ℕ → List Placed → Type 0
-AllStand f [] = Unit {0}
-AllStand f (x ∷ xs) = StandsIn f x × AllStand f xs
-
-abbrev pub places_in : List Placed → List ℕ
-places_in [] = []
-places_in (x ∷ xs) = x.place ∷ places_in xs
 
 -- the records that blocks leave, of which the newest stands first
 abbrev pub left_by : List Placed → List Pair

@@ -2,19 +2,20 @@
 ghost use Rattle.std.specs.Prelude.{◌≡◌, ◌-◌, ◌≤◌, ◌<◌, List, [], length, take, IfOk, IfSome, OnOk, Some};
 ghost use Rattle.std.specs.Option.{is_some};
 ghost use Rattle.tk_disk.specs.Crash.{OnlyReads};
-ghost use Rattle.tk_model.specs.Records.{after, find, replay, HasNoClear};
+ghost use Rattle.tk_model.specs.Records.{after, after_one, find, replay, HasNoClear, Rising};
 ghost use Rattle.tk_model.specs.declared.record.Order.TheVariants.{Hash};
 ghost use Rattle.tk_model.specs.declared.record.Group.{Group};
+ghost use Rattle.tk_model.specs.declared.record.Pair.{Pair as Record};
+ghost use Rattle.tk_block.specs.Blocks.{key_of as key_in};
 ghost use Rattle.tk_store.specs.Store.{HasCause, NeverFull};
 ghost use Rattle.tk_append.specs.FileText.{IsFile};
-ghost use Rattle.tk_hash.specs.Seek.{KnowsHeads, KnowsKey};
-ghost use Rattle.tk_hash.specs.Plan.{mark_in, marked, told_there, count_after};
+ghost use Rattle.tk_hash.specs.Seek.{KnowsFile, KnowsKey};
+ghost use Rattle.tk_hash.specs.Plan.{mark_in, told_there, TellThere};
 
 use crate::found::FoundKey;
 use crate::links::key_of;
-use crate::seek::has_key;
+use crate::seek::{HeldFile, has_key};
 use std::alloc::Global;
-use tk_block::StaticHead;
 use tk_disk::Disk;
 use tk_model::{Bytes, Change, NoMemory, Pair};
 use tk_store::{HashedRecords, StoreError};
@@ -39,8 +40,9 @@ fn mark_before(
     at: usize,
 ) -> Result<(), NoMemory>
     requires at { at < length changes.now }
-    requires marks { marks.old ≡ marked (take (at - 1) changes.now) [] }
-    ensures { OnOk result (marks.new ≡ marked (take at changes.now) []) }
+    requires alone { HasNoClear changes.now }
+    requires marks { TellThere (take (at - 1) changes.now) marks.old }
+    ensures { OnOk result (TellThere (take at changes.now) marks.new) }
 {
     if at == 0 {
         return Ok(());
@@ -52,22 +54,24 @@ fn mark_before(
 /// Whether a key is there, by its mark, by the last look-up, or else by the file.
 fn was_there<D: Disk>(
     disk: &mut D,
-    head: &StaticHead,
-    heads: &[u64],
+    file: &HeldFile,
     buffer: &mut [u8],
     marks: &HashedRecords,
     found: &FoundKey,
     key: &[u8],
 ) -> Result<bool, StoreError>
-    requires p { head.now.p ≤ 24 }
-    requires heads { KnowsHeads (D.image disk.old) head.now heads.now }
-    requires found { KnowsKey (D.image disk.old) head.now found.now }
+    requires p { file.now.head.p ≤ 24 }
+    requires file { KnowsFile (D.image disk.old) file.now }
+    requires found { KnowsKey (D.image disk.old) file.now.head found.now }
     requires buffer { 131072 ≤ length buffer.old }
-    ensures value { (groups : List Group) → IfSome (D.image disk.old) (λ f. IsFile head.now f groups
-        → IfOk result (λ there. there ≡ told_there (find key.now marks.now) (is_some (find key.now (replay Hash groups []))))) }
+    ensures value { (groups : List Group) → IfSome (D.image disk.old)
+        (λ f. IsFile file.now.head f groups
+        → IfOk result (λ there. there ≡ told_there (find key.now marks.now)
+        (is_some (find key.now (replay Hash groups []))))) }
     ensures buffer { length buffer.new ≡ length buffer.old }
     ensures image { D.image disk.new ≡ D.image disk.old }
-    ensures still { OnlyReads D.may_leave D.moment D.left_since D.past D.left_with disk.old disk.new }
+    ensures still { OnlyReads D.may_leave D.moment D.left_since D.past D.left_with
+        disk.old disk.new }
     ensures taken { D.taken_count disk.old ≤ D.taken_count disk.new }
     ensures cause { HasCause (D.fault_count disk.old) (D.fault_count disk.new) result }
     ensures never { NeverFull result }
@@ -76,14 +80,16 @@ fn was_there<D: Disk>(
         Some(mark) => Ok(!mark.is_empty()),
         None => match found.recall(key) {
             Some(there) => Ok(there),
-            None => has_key(disk, head, heads, buffer, key),
+            None => has_key(disk, file, buffer, key),
         },
     }
 }
 
 /// The number of records behind a change of a key that was there or not. What passes 64 bits is no number of records.
 fn counted(count: u64, change: &Change, there: bool) -> Result<u64, NoMemory>
-    ensures { IfOk result (λ n. n ≡ count_after change.now count there) }
+    ensures { (m : List Record) → Rising Hash m → count ≡ length m
+        → there ≡ is_some (find (key_in change.now) m)
+        → IfOk result (λ n. n ≡ length (after_one Hash change.now m)) }
 {
     match change {
         Change::Put(_) if there => Ok(count),
@@ -108,23 +114,24 @@ fn buckets_for(number: usize) -> u8
 pub(crate) fn count_changes<D: Disk>(
     alloc: Global,
     disk: &mut D,
-    head: &StaticHead,
-    heads: &[u64],
+    file: &HeldFile,
     count: u64,
     buffer: &mut [u8],
     found: &FoundKey,
     changes: &[Change],
 ) -> Result<u64, StoreError>
-    requires p { head.now.p ≤ 24 }
-    requires heads { KnowsHeads (D.image disk.old) head.now heads.now }
-    requires found { KnowsKey (D.image disk.old) head.now found.now }
+    requires p { file.now.head.p ≤ 24 }
+    requires file { KnowsFile (D.image disk.old) file.now }
+    requires found { KnowsKey (D.image disk.old) file.now.head found.now }
     requires buffer { 131072 ≤ length buffer.old }
     requires alone { HasNoClear changes.now }
-    ensures count { (groups : List Group) → IfSome (D.image disk.old) (λ f. IsFile head.now f groups → count ≡ length (replay Hash groups [])
+    ensures count { (groups : List Group) → IfSome (D.image disk.old)
+        (λ f. IsFile file.now.head f groups → count ≡ length (replay Hash groups [])
         → IfOk result (λ n. n ≡ length (after Hash changes.now (replay Hash groups [])))) }
     ensures buffer { length buffer.new ≡ length buffer.old }
     ensures image { D.image disk.new ≡ D.image disk.old }
-    ensures still { OnlyReads D.may_leave D.moment D.left_since D.past D.left_with disk.old disk.new }
+    ensures still { OnlyReads D.may_leave D.moment D.left_since D.past D.left_with
+        disk.old disk.new }
     ensures taken { D.taken_count disk.old ≤ D.taken_count disk.new }
     ensures cause { HasCause (D.fault_count disk.old) (D.fault_count disk.new) result }
     ensures never { NeverFull result }
@@ -134,7 +141,7 @@ pub(crate) fn count_changes<D: Disk>(
     for i in 0..changes.len() {
         let change = &changes[i];
         mark_before(alloc, &mut marks, changes, i)?;
-        let there = was_there(disk, head, heads, buffer, &marks, found, key_of(change))?;
+        let there = was_there(disk, file, buffer, &marks, found, key_of(change))?;
         count = counted(count, change, there)?;
     }
     Ok(count)

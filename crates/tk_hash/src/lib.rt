@@ -1,7 +1,6 @@
 //! Hash files as stores.
 #![tactic(auto)]
 
-mod block;
 mod counts;
 mod found;
 mod links;
@@ -18,7 +17,5 @@ pub use store::HashStore;
 mod cost_tests;
 #[cfg(test)]
 mod crash_tests;
-#[cfg(test)]
-mod shelf_tests;
 #[cfg(test)]
 mod tests;

@@ -51,7 +51,8 @@ fn remember(newest: &mut BTreeMap<u64, u64>, heads: &[NewHead]) -> Result<(), No
 /// The newest block of a bucket: of the new heads, or else the head.
 fn newest_block(newest: &BTreeMap<u64, u64>, heads: &[u64], bucket: u64) -> u64
     requires { bucket < length heads.now }
-    ensures { (new : List NewHead) → IsNewest newest.now new → result ≡ placed_in new bucket (slice_index heads.now bucket) }
+    ensures { (new : List NewHead) → IsNewest newest.now new → result ≡ placed_in new bucket
+        (slice_index heads.now bucket) }
 {
     match newest.get(&bucket) {
         Some(place) => *place,
@@ -61,7 +62,8 @@ fn newest_block(newest: &BTreeMap<u64, u64>, heads: &[u64], bucket: u64) -> u64
 
 /// The newest blocks as new heads, each bucket once, in order.
 fn heads_of(alloc: Global, newest: &BTreeMap<u64, u64>) -> Result<Vec<NewHead>, NoMemory>
-    ensures heads { IfOk result (λ heads. heads.items ≡ map (λ e. record { bucket = e.0; place = e.1 }) newest.now.entries) }
+    ensures heads { IfOk result (λ heads. heads.items ≡ map (λ e. record { bucket = e.0; place = e.1 })
+        newest.now.entries) }
     ensures ordered { IsOrdered nat_cmp newest.now }
 {
     let heads = newest
@@ -99,8 +101,10 @@ impl Chains {
 
     /// Leaves each bucket once among the new heads, with its newest block.
     pub(crate) fn settle(&mut self, alloc: Global) -> Result<(), NoMemory>
-        requires newest { IsNewest self.old.newest (take (length self.old.heads.items - 1) self.old.heads.items) }
-        ensures heads { OnOk result ((bucket found : ℕ) → placed_in self.new.heads.items bucket found ≡ placed_in self.old.heads.items bucket found) }
+        requires newest { IsNewest self.old.newest (take (length self.old.heads.items - 1)
+            self.old.heads.items) }
+        ensures heads { OnOk result ((bucket found : ℕ) → placed_in self.new.heads.items bucket
+            found ≡ placed_in self.old.heads.items bucket found) }
         ensures links { self.new.links ≡ self.old.links }
     {
         if self.heads.len() < 2 {
@@ -122,10 +126,13 @@ fn chain_key(
 ) -> Result<(), NoMemory>
     requires p { p ≤ 24 }
     requires heads { length heads.now ≡ 2 ^ p }
-    requires newest { IsNewest chains.old.newest (take (length chains.old.heads.items - 1) chains.old.heads.items) }
+    requires newest { IsNewest chains.old.newest (take (length chains.old.heads.items - 1)
+        chains.old.heads.items) }
     ensures newest { OnOk result (IsNewest chains.new.newest chains.old.heads.items) }
-    ensures heads { OnOk result (chains.new.heads.items ≡ chains.old.heads.items ++ record { bucket = bucket_in p key.now; place = place } ∷ []) }
-    ensures links { OnOk result (chains.new.links ≡ chains.old.links ++ placed_in chains.old.heads.items (bucket_in p key.now) (slice_index heads.now (bucket_in p key.now)) ∷ []) }
+    ensures heads { OnOk result (chains.new.heads.items ≡ chains.old.heads.items
+        ++ record { bucket = bucket_in p key.now; place = place } ∷ []) }
+    ensures links { OnOk result (chains.new.links ≡ chains.old.links ++ placed_in chains.old.heads.items
+        (bucket_in p key.now) (slice_index heads.now (bucket_in p key.now)) ∷ []) }
     ensures counts { OnOk result (length chains.new.links ≡ length chains.old.links + 1) }
     ensures below { OnOk result (bucket_in p key.now < 2 ^ p) }
 {
@@ -148,11 +155,16 @@ pub(crate) fn chain_changes(
     requires fit { AllFit changes.now }
     requires alone { HasNoClear changes.now }
     requires end { end_of end (group_bodies 0 changes.now) ≤ 2 ^ 40 }
-    ensures links { (number : ℕ) (blocks : List Placed) → HeadsAre p heads.now blocks → IfOk result (λ chains. chains.links ≡ links_of p blocks (laid end (group_bodies number changes.now))) }
-    ensures heads { (number : ℕ) (blocks : List Placed) → HeadsAre p heads.now blocks → IfOk result (λ chains. HeadsAre p (with_new chains.heads.items heads.now) (blocks ++ laid end (group_bodies number changes.now))) }
+    ensures links { (number : ℕ) (blocks : List Placed) → HeadsAre p heads.now blocks
+        → IfOk result (λ chains. chains.links ≡ links_of p blocks
+        (laid end (group_bodies number changes.now))) }
+    ensures heads { (number : ℕ) (blocks : List Placed) → HeadsAre p heads.now blocks
+        → IfOk result (λ chains. HeadsAre p (with_new chains.heads.items heads.now)
+        (blocks ++ laid end (group_bodies number changes.now))) }
     ensures fit { IfOk result (λ chains. AllBelow (2 ^ p) chains.heads.items) }
     ensures counts { IfOk result (λ chains. length chains.links ≡ length changes.now) }
-    ensures newest { IfOk result (λ chains. IsNewest chains.newest (take (length chains.heads.items - 1) chains.heads.items)) }
+    ensures newest { IfOk result (λ chains. IsNewest chains.newest
+        (take (length chains.heads.items - 1) chains.heads.items)) }
 {
     let mut chains = Chains::new(alloc);
     let mut place = end;

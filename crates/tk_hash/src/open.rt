@@ -1,6 +1,6 @@
 ghost use Rattle.std.specs.Prelude.{◌≡◌, ◌+◌, ◌≤◌, ◌<◌, ◌^◌, ◌∷◌, [], ℕ, List, length, replicate, min, true, false, IfOk, IfErr, IsOk, OnOk, IfSome, Some};
 ghost use Rattle.std.specs.Option.{is_some, option_map};
-ghost use Rattle.tk_disk.specs.Crash.{Torn, Only, OnlyReads, LeavesOnly, PastOnly};
+ghost use Rattle.tk_disk.specs.Crash.{Only, OnlyReads, PastOnly};
 ghost use Rattle.tk_disk.specs.Disk.{Rose, HasCause};
 ghost use Rattle.tk_disk.specs.Past.{settled_on};
 ghost use Rattle.tk_model.specs.declared.record.Group.{Group};
@@ -11,6 +11,7 @@ ghost use Rattle.tk_append.specs.LogParts.{log_disk, log_head, log_end, with_clo
 ghost use Rattle.tk_append.specs.LogPasts.{Marks};
 ghost use Rattle.tk_append.specs.Read.{IsOutside};
 ghost use Rattle.tk_block.specs.Text.{is_static};
+ghost use Rattle.tk_hash.specs.Relations.{MarkTornOnly, UnlessFaulty};
 
 use crate::found::FoundKey;
 use crate::store::HashStore;
@@ -45,12 +46,15 @@ fn room_of(alloc: Global, p: u8) -> Result<(Vec<u64>, Vec<u8>), NoMemory>
 fn write_empty<D: Disk>(alloc: Global, disk: &mut D, head: &StaticHead) -> Result<(), OpenError>
     requires head { is_static head.now ≡ true }
     requires empty { IfSome (D.image disk.old) (λ f. f ≡ []) }
-    ensures written { OnOk result (IfSome (D.image disk.old) (λ _. D.image disk.new ≡ Some (closed_text head.now [] 0))) }
+    ensures written { OnOk result (IfSome (D.image disk.old) (λ _. D.image disk.new ≡ Some
+        (closed_text head.now [] 0))) }
     ensures told { is_some (D.image disk.new) ≡ is_some (D.image disk.old) }
-    ensures back { IfErr result (λ e. (e ≡ OpenError.Fault → ⊥) → D.image disk.new ≡ D.image disk.old) }
+    ensures back { IfErr result (λ e. (e ≡ OpenError.Fault → ⊥)
+        → D.image disk.new ≡ D.image disk.old) }
     ensures only { IfErr result IsOutside }
     ensures kept { OnOk result (D.fault_count disk.new ≡ D.fault_count disk.old) }
-    ensures fault { IfErr result (λ e. e ≡ OpenError.Fault → Rose (D.fault_count disk.old) (D.fault_count disk.new)) }
+    ensures fault { IfErr result (λ e. e ≡ OpenError.Fault → Rose (D.fault_count disk.old)
+        (D.fault_count disk.new)) }
     ensures later { D.fault_count disk.old ≤ D.fault_count disk.new }
 {
     match write_or_empty(alloc, disk, head, 0, &PairList::new(alloc)) {
@@ -67,23 +71,35 @@ fn begin<D: Disk>(
     writable: bool,
 ) -> Result<Closing, DiskError>
     requires there { IfSome (D.image (log_disk log.old)) (λ f. 64 ≤ length f) }
+    // the log
     ensures head { log_head log.new ≡ log_head log.old }
     ensures end { log_end log.new ≡ log_end log.old }
+    // a file that is read
     ensures reads { writable ≡ false → D.image (log_disk log.new) ≡ D.image (log_disk log.old) }
-    ensures reads_still { writable ≡ false → OnlyReads D.may_leave D.moment D.left_since D.past D.left_with (log_disk log.old) (log_disk log.new) }
+    ensures reads_still { writable ≡ false → OnlyReads D.may_leave D.moment D.left_since D.past
+        D.left_with (log_disk log.old) (log_disk log.new) }
     ensures same { writable ≡ false → IfOk result (λ c. c ≡ closing) }
+    // a file that is written
     ensures open { writable ≡ true → IfOk result (λ c. c ≡ open_mark) }
-    ensures marked { writable ≡ true → OnOk result (D.image (log_disk log.new) ≡ option_map (with_closing open_mark) (D.image (log_disk log.old))) }
+    ensures marked { writable ≡ true → OnOk result (D.image (log_disk log.new) ≡ option_map
+        (with_closing open_mark) (D.image (log_disk log.old))) }
+    // the disk
     ensures told { is_some (D.image (log_disk log.new)) ≡ is_some (D.image (log_disk log.old)) }
-    ensures cause { HasCause (D.fault_count (log_disk log.old)) (D.fault_count (log_disk log.new)) result }
+    ensures cause { HasCause (D.fault_count (log_disk log.old)) (D.fault_count (log_disk log.new))
+        result }
     ensures done { writable ≡ false → IsOk result }
-    ensures durable { writable ≡ true → OnOk result (IfSome (D.image (log_disk log.new)) (λ f. Only f (D.may_leave (log_disk log.new)))) }
-    ensures time { LeavesOnly D.moment D.left_since (log_disk log.old) (log_disk log.new) (λ c. (d : List ℕ) × D.may_leave (log_disk log.old) d × Torn 32 32 d c) }
+    ensures durable { writable ≡ true
+        → OnOk result (IfSome (D.image (log_disk log.new))
+        (λ f. Only f (D.may_leave (log_disk log.new)))) }
+    ensures time { MarkTornOnly D.may_leave D.moment D.left_since (log_disk log.old)
+        (log_disk log.new) }
+    ensures settled { writable ≡ true
+        → OnOk result (IfSome (D.image (log_disk log.new)) (λ f. D.past (log_disk log.new)
+        ≡ settled_on f)) }
     ensures past { Marks open_mark (D.image (log_disk log.old))
         (D.past (log_disk log.old)) (D.past (log_disk log.new)) }
     ensures pasts { PastOnly D.moment D.left_with (log_disk log.old) (log_disk log.new)
         (Marks open_mark (D.image (log_disk log.old)) (D.past (log_disk log.old))) }
-    ensures settled { writable ≡ true → OnOk result (IfSome (D.image (log_disk log.new)) (λ f. D.past (log_disk log.new) ≡ settled_on f)) }
 {
     if !writable {
         return Ok(closing);
@@ -109,27 +125,47 @@ impl<D: Disk> HashStore<D> {
         shard: ShardOf,
     ) -> Result<HashStore<D>, Unopened<D>>
         requires shard { shard.index < shard.of }
-        ensures exact { IfSome (D.image disk) (λ f. Tells result (first_fault (1 ∷ []) writable shard f)) }
-        ensures opened { IfOk result (λ s. (groups : List Group) × HashStands D.image D.may_leave D.past s (opening groups) [] 0
-            × IfSome (D.image disk) (λ f. f ≡ closed_text (hash_head s) groups (hash_constants s).next)) }
+        // the answer
+        ensures exact { IfSome (D.image disk)
+            (λ f. Tells result (first_fault (1 ∷ []) writable shard f)) }
+        ensures opened { IfOk result (λ s. (groups : List Group)
+            × HashStands D.image D.may_leave D.past s (opening groups) [] 0
+            × IfSome (D.image disk) (λ f. f ≡ closed_text (hash_head s) groups
+            (hash_constants s).next)) }
         ensures kind { IfOk result (λ s. (hash_head s).kind ≡ 1) }
-        ensures mode { IfOk result (λ s. ((hash_constants s).writable ≡ writable) × ((hash_view D.image s).closed ≡ false)) }
+        ensures mode { IfOk result (λ s. ((hash_constants s).writable ≡ writable)
+            × ((hash_view D.image s).closed ≡ false)) }
         ensures limit { IfOk result (λ s. (hash_constants s).limit ≡ min limit (2 ^ 40)) }
         ensures last { IfOk result (λ s. writable ≡ true → (hash_constants s).next ≤ 2 ^ 62) }
+        // the disk of a store
         ensures reads { IfOk result (λ s. writable ≡ false → D.image (hash_disk s) ≡ D.image disk) }
-        ensures reads_still { writable ≡ false → IfOk result (λ s. OnlyReads D.may_leave D.moment D.left_since D.past D.left_with disk (hash_disk s)) }
-        ensures marked { writable ≡ true → IfOk result (λ s. D.image (hash_disk s) ≡ option_map (with_closing open_mark) (D.image disk)) }
-        ensures durable { writable ≡ true → IfOk result (λ s. IfSome (D.image (hash_disk s)) (λ f. Only f (D.may_leave (hash_disk s)))) }
+        ensures reads_still { writable ≡ false
+            → IfOk result (λ s. OnlyReads D.may_leave D.moment D.left_since D.past D.left_with disk
+            (hash_disk s)) }
+        ensures marked { writable ≡ true → IfOk result (λ s. D.image (hash_disk s) ≡ option_map
+            (with_closing open_mark) (D.image disk)) }
+        ensures durable { writable ≡ true
+            → IfOk result (λ s. IfSome (D.image (hash_disk s))
+            (λ f. Only f (D.may_leave (hash_disk s)))) }
         ensures told { IfOk result (λ s. is_some (D.image (hash_disk s)) ≡ is_some (D.image disk)) }
-        ensures back { IfErr result (λ u. (u.cause ≡ OpenError.Fault → ⊥) → D.image u.disk ≡ D.image disk) }
+        // the disk that is handed back
+        ensures back { UnlessFaulty result (λ u. D.image u.disk ≡ D.image disk) }
         ensures back_reads { writable ≡ false → IfErr result (λ u. D.image u.disk ≡ D.image disk) }
-        ensures back_still { IfErr result (λ u. (u.cause ≡ OpenError.Fault → ⊥) → OnlyReads D.may_leave D.moment D.left_since D.past D.left_with disk u.disk) }
-        ensures back_reads_still { writable ≡ false → IfErr result (λ u. OnlyReads D.may_leave D.moment D.left_since D.past D.left_with disk u.disk) }
+        ensures back_still { UnlessFaulty result (λ u. OnlyReads D.may_leave D.moment D.left_since
+            D.past D.left_with disk u.disk) }
+        ensures back_reads_still { writable ≡ false
+            → IfErr result (λ u. OnlyReads D.may_leave D.moment D.left_since D.past D.left_with disk
+            u.disk) }
+        // faults
         ensures kept { IfOk result (λ s. D.fault_count (hash_disk s) ≡ D.fault_count disk) }
-        ensures fault { IfErr result (λ u. u.cause ≡ OpenError.Fault → Rose (D.fault_count disk) (D.fault_count u.disk)) }
+        ensures fault { IfErr result (λ u. u.cause ≡ OpenError.Fault → Rose (D.fault_count disk)
+            (D.fault_count u.disk)) }
         ensures later { IfErr result (λ u. D.fault_count disk ≤ D.fault_count u.disk) }
-        ensures time { IfOk result (λ s. LeavesOnly D.moment D.left_since disk (hash_disk s) (λ c. (d : List ℕ) × D.may_leave disk d × Torn 32 32 d c)) }
-        ensures back_time { IfErr result (λ u. LeavesOnly D.moment D.left_since disk u.disk (λ c. (d : List ℕ) × D.may_leave disk d × Torn 32 32 d c)) }
+        // a crash
+        ensures time { IfOk result (λ s. MarkTornOnly D.may_leave D.moment D.left_since disk
+            (hash_disk s)) }
+        ensures back_time { IfErr result (λ u. MarkTornOnly D.may_leave D.moment D.left_since disk
+            u.disk) }
         ensures past { IfOk result (λ s.
             Marks open_mark (D.image disk) (D.past disk) (D.past (hash_disk s))) }
         ensures back_past { IfErr result (λ u.
@@ -173,18 +209,33 @@ impl<D: Disk> HashStore<D> {
         requires p { p ≤ 24 }
         requires shard { shard.index < shard.of }
         requires empty { IfSome (D.image disk) (λ f. f ≡ []) }
-        ensures opened { IfOk result (λ s. HashStands D.image D.may_leave D.past s (opening []) [] 0) }
-        ensures head { IfOk result (λ s. hash_head s ≡ record { kind = 1; version = 1; p = p; order = 0; generation = 0 }) }
-        ensures mode { IfOk result (λ s. ((hash_constants s).writable ≡ true) × ((hash_view D.image s).closed ≡ false)) }
+        // the answer
+        ensures opened { IfOk result (λ s. HashStands D.image D.may_leave D.past s (opening []) []
+            0) }
+        ensures head { IfOk result (λ s. hash_head s ≡ record {
+          kind = 1;
+          version = 1;
+          p = p;
+          order = 0;
+          generation = 0;
+        }) }
+        ensures mode { IfOk result (λ s. ((hash_constants s).writable ≡ true)
+            × ((hash_view D.image s).closed ≡ false)) }
         ensures next { IfOk result (λ s. (hash_constants s).next ≡ 0) }
         ensures limit { IfOk result (λ s. (hash_constants s).limit ≡ min limit (2 ^ 40)) }
+        // the disk of a store
         ensures told { IfOk result (λ s. is_some (D.image (hash_disk s)) ≡ is_some (D.image disk)) }
-        ensures durable { IfOk result (λ s. IfSome (D.image (hash_disk s)) (λ f. Only f (D.may_leave (hash_disk s)))) }
-        ensures marked { IfOk result (λ s. IfSome (D.image (hash_disk s)) (λ f. f ≡ with_closing open_mark (closed_text (hash_head s) [] 0))) }
-        ensures back { IfErr result (λ u. (u.cause ≡ OpenError.Fault → ⊥) → D.image u.disk ≡ D.image disk) }
+        ensures durable { IfOk result (λ s. IfSome (D.image (hash_disk s))
+            (λ f. Only f (D.may_leave (hash_disk s)))) }
+        ensures marked { IfOk result (λ s. IfSome (D.image (hash_disk s))
+            (λ f. f ≡ with_closing open_mark (closed_text (hash_head s) [] 0))) }
+        // the disk that is handed back
+        ensures back { UnlessFaulty result (λ u. D.image u.disk ≡ D.image disk) }
         ensures only { IfErr result (λ u. IsOutside u.cause) }
+        // faults
         ensures kept { IfOk result (λ s. D.fault_count (hash_disk s) ≡ D.fault_count disk) }
-        ensures fault { IfErr result (λ u. u.cause ≡ OpenError.Fault → Rose (D.fault_count disk) (D.fault_count u.disk)) }
+        ensures fault { IfErr result (λ u. u.cause ≡ OpenError.Fault → Rose (D.fault_count disk)
+            (D.fault_count u.disk)) }
         ensures later { IfErr result (λ u. D.fault_count disk ≤ D.fault_count u.disk) }
     {
         let head = StaticHead {
@@ -227,23 +278,41 @@ impl<D: Disk> HashStore<D> {
         buffer: Vec<u8>,
     ) -> Result<HashStore<D>, Unopened<D>>
         requires buffer { 131072 ≤ length buffer.items }
-        requires whole { (groups : List Group) × IsClosedLog D.image log closing heads.items groups }
-        ensures stands { (groups : List Group) → IsClosedLog D.image log closing heads.items groups → IfOk result (λ s. HashStands D.image D.may_leave D.past s (opening groups) [] 0) }
+        requires whole { (groups : List Group) × IsClosedLog D.image log closing heads.items
+            groups }
+        // the answer
+        ensures stands { (groups : List Group) → IsClosedLog D.image log closing heads.items groups
+            → IfOk result (λ s. HashStands D.image D.may_leave D.past s (opening groups) [] 0) }
         ensures head { IfOk result (λ s. hash_head s ≡ log_head log) }
-        ensures mode { IfOk result (λ s. ((hash_constants s).writable ≡ writable) × ((hash_view D.image s).closed ≡ false)) }
+        ensures mode { IfOk result (λ s. ((hash_constants s).writable ≡ writable)
+            × ((hash_view D.image s).closed ≡ false)) }
         ensures next { IfOk result (λ s. (hash_constants s).next ≡ closing.next) }
         ensures limit { IfOk result (λ s. (hash_constants s).limit ≡ min limit (2 ^ 40)) }
-        ensures reads { IfOk result (λ s. writable ≡ false → D.image (hash_disk s) ≡ D.image (log_disk log)) }
-        ensures reads_still { writable ≡ false → IfOk result (λ s. OnlyReads D.may_leave D.moment D.left_since D.past D.left_with (log_disk log) (hash_disk s)) }
-        ensures marked { writable ≡ true → IfOk result (λ s. D.image (hash_disk s) ≡ option_map (with_closing open_mark) (D.image (log_disk log))) }
-        ensures durable { writable ≡ true → IfOk result (λ s. IfSome (D.image (hash_disk s)) (λ f. Only f (D.may_leave (hash_disk s)))) }
-        ensures told { IfOk result (λ s. is_some (D.image (hash_disk s)) ≡ is_some (D.image (log_disk log))) }
+        // the disk of a store
+        ensures reads { IfOk result (λ s. writable ≡ false → D.image (hash_disk s) ≡ D.image
+            (log_disk log)) }
+        ensures reads_still { writable ≡ false
+            → IfOk result (λ s. OnlyReads D.may_leave D.moment D.left_since D.past D.left_with
+            (log_disk log) (hash_disk s)) }
+        ensures marked { writable ≡ true → IfOk result (λ s. D.image (hash_disk s) ≡ option_map
+            (with_closing open_mark) (D.image (log_disk log))) }
+        ensures durable { writable ≡ true
+            → IfOk result (λ s. IfSome (D.image (hash_disk s))
+            (λ f. Only f (D.may_leave (hash_disk s)))) }
+        ensures told { IfOk result (λ s. is_some (D.image (hash_disk s))
+            ≡ is_some (D.image (log_disk log))) }
+        // faults
         ensures fails { IfErr result (λ u. (u.cause ≡ OpenError.Fault) × (writable ≡ false → ⊥)) }
-        ensures kept { IfOk result (λ s. D.fault_count (hash_disk s) ≡ D.fault_count (log_disk log)) }
-        ensures fault { IfErr result (λ u. u.cause ≡ OpenError.Fault → Rose (D.fault_count (log_disk log)) (D.fault_count u.disk)) }
+        ensures kept { IfOk result (λ s. D.fault_count (hash_disk s) ≡ D.fault_count
+            (log_disk log)) }
+        ensures fault { IfErr result (λ u. u.cause ≡ OpenError.Fault
+            → Rose (D.fault_count (log_disk log)) (D.fault_count u.disk)) }
         ensures later { IfErr result (λ u. D.fault_count (log_disk log) ≤ D.fault_count u.disk) }
-        ensures time { IfOk result (λ s. LeavesOnly D.moment D.left_since (log_disk log) (hash_disk s) (λ c. (d : List ℕ) × D.may_leave (log_disk log) d × Torn 32 32 d c)) }
-        ensures back_time { IfErr result (λ u. LeavesOnly D.moment D.left_since (log_disk log) u.disk (λ c. (d : List ℕ) × D.may_leave (log_disk log) d × Torn 32 32 d c)) }
+        // a crash
+        ensures time { IfOk result (λ s. MarkTornOnly D.may_leave D.moment D.left_since
+            (log_disk log) (hash_disk s)) }
+        ensures back_time { IfErr result (λ u. MarkTornOnly D.may_leave D.moment D.left_since
+            (log_disk log) u.disk) }
         ensures past { IfOk result (λ s.
             Marks open_mark (D.image (log_disk log)) (D.past (log_disk log)) (D.past (hash_disk s))) }
         ensures back_past { IfErr result (λ u.

@@ -7,16 +7,19 @@ ghost use Rattle.tk_model.specs.declared.record.Order.TheVariants.{Hash};
 ghost use Rattle.tk_model.specs.declared.record.Group.{Group};
 ghost use Rattle.tk_store.specs.Store.{HasCause, NeverFull};
 ghost use Rattle.tk_block.specs.Layout.{Placed};
+ghost use Rattle.tk_block.specs.declared.head.StaticHead.{StaticHead};
+ghost use Rattle.tk_buckets.specs.Chain.{places_in};
+ghost use Rattle.tk_buckets.specs.Lookup.{AllStand};
 ghost use Rattle.tk_append.specs.FileText.{IsFile};
-ghost use Rattle.tk_hash.specs.Chain.{in_bucket};
-ghost use Rattle.tk_hash.specs.Seek.{IsShelf};
-ghost use Rattle.tk_hash.specs.Shelf.{AllStand, HasBucket, places_in, left_by};
+ghost use Rattle.tk_hash.specs.Chain.{chain_of, in_bucket};
+ghost use Rattle.tk_hash.specs.Seek.{IsShelf, KnowsFile};
+ghost use Rattle.tk_hash.specs.Shelf.{HasBucket, left_by};
 
 use crate::reading::{change_at, filled_below, next_filled};
+use crate::seek::HeldFile;
 use std::alloc::Global;
-use tk_block::StaticHead;
-use tk_buckets::chain;
-use tk_disk::Disk;
+use tk_buckets::{PlaceList, chain};
+use tk_disk::{Disk, DiskError};
 use tk_model::{Bound, NoMemory, Pair};
 use tk_store::{HashedRecords, StoreError, end_bucket, first_bucket, number_of_buckets};
 
@@ -50,9 +53,12 @@ fn read_blocks<D: Disk>(
     records: &mut HashedRecords,
 ) -> Result<(), StoreError>
     requires { records.old ≡ [] }
-    ensures value { (blocks : List Placed) → IfSome (D.image disk.old) (λ f. AllStand f blocks → places.now ≡ places_in blocks → OnOk result (records.new ≡ left_by blocks)) }
+    ensures value { (h : StaticHead) (blocks : List Placed) → IfSome (D.image disk.old) (λ f.
+        AllStand h f blocks → length f < 2 ^ 64 → places.now ≡ places_in blocks
+        → OnOk result (records.new ≡ left_by blocks)) }
     ensures image { D.image disk.new ≡ D.image disk.old }
-    ensures still { OnlyReads D.may_leave D.moment D.left_since D.past D.left_with disk.old disk.new }
+    ensures still { OnlyReads D.may_leave D.moment D.left_since D.past D.left_with
+        disk.old disk.new }
     ensures taken { D.taken_count disk.old ≤ D.taken_count disk.new }
     ensures cause { HasCause (D.fault_count disk.old) (D.fault_count disk.new) result }
     ensures never { NeverFull result }
@@ -64,31 +70,62 @@ fn read_blocks<D: Disk>(
     Ok(())
 }
 
-/// The records of a bucket.
-fn read_bucket<D: Disk>(
+/// The places of a bucket's blocks, the newest first.
+fn places_of<D: Disk>(
     alloc: Global,
     disk: &mut D,
-    head: &StaticHead,
+    file: &HeldFile,
     bucket: u64,
-) -> Result<HashedRecords, StoreError>
-    requires p { head.now.p ≤ 24 }
-    requires bucket { bucket < 2 ^ head.now.p }
-    ensures value { (groups : List Group) → IfSome (D.image disk.old) (λ f. IsFile head.now f groups → IfOk result (λ r. r ≡ in_bucket head.now.p bucket (replay Hash groups []))) }
+) -> Result<PlaceList, StoreError>
+    requires bucket { bucket < 2 ^ file.now.head.p }
+    requires file { KnowsFile (D.image disk.old) file.now }
+    ensures value { (groups : List Group) → IfSome (D.image disk.old) (λ f.
+        IsFile file.now.head f groups
+        → IfOk result (λ l. l ≡ places_in (chain_of file.now.head bucket groups))) }
     ensures image { D.image disk.new ≡ D.image disk.old }
-    ensures still { OnlyReads D.may_leave D.moment D.left_since D.past D.left_with disk.old disk.new }
+    ensures still { OnlyReads D.may_leave D.moment D.left_since D.past D.left_with
+        disk.old disk.new }
     ensures taken { D.taken_count disk.old ≤ D.taken_count disk.new }
     ensures cause { HasCause (D.fault_count disk.old) (D.fault_count disk.new) result }
     ensures never { NeverFull result }
 {
-    let places = chain(alloc, disk, head, bucket)?;
-    let mut records = HashedRecords::new(alloc, bits_for(head.p, places.len()))?;
+    match chain(alloc, disk, file.heads[bucket as usize], file.end) {
+        Ok(places) => Ok(places),
+        Err(DiskError::Fault) => Err(StoreError::Fault),
+        Err(DiskError::NoMemory) => Err(StoreError::NoMemory),
+    }
+}
+
+/// The records of a bucket.
+fn read_bucket<D: Disk>(
+    alloc: Global,
+    disk: &mut D,
+    file: &HeldFile,
+    bucket: u64,
+) -> Result<HashedRecords, StoreError>
+    requires p { file.now.head.p ≤ 24 }
+    requires file { KnowsFile (D.image disk.old) file.now }
+    requires bucket { bucket < 2 ^ file.now.head.p }
+    ensures value { (groups : List Group) → IfSome (D.image disk.old) (λ f.
+        IsFile file.now.head f groups
+        → IfOk result (λ r. r ≡ in_bucket file.now.head.p bucket (replay Hash groups []))) }
+    ensures image { D.image disk.new ≡ D.image disk.old }
+    ensures still { OnlyReads D.may_leave D.moment D.left_since D.past D.left_with
+        disk.old disk.new }
+    ensures taken { D.taken_count disk.old ≤ D.taken_count disk.new }
+    ensures cause { HasCause (D.fault_count disk.old) (D.fault_count disk.new) result }
+    ensures never { NeverFull result }
+{
+    let places = places_of(alloc, disk, file, bucket)?;
+    let mut records = HashedRecords::new(alloc, bits_for(file.head.p, places.len()))?;
     read_blocks(alloc, disk, places.as_slice(), &mut records)?;
     Ok(records)
 }
 
 /// Whether the shelf has the bucket.
 fn has_bucket(shelf: &Option<Shelf>, bucket: u64) -> bool
-    ensures { (h : StaticHead) (groups : List Group) → result ≡ true → IsShelf h groups shelf.now → HasBucket h groups bucket shelf.now }
+    ensures { (h : StaticHead) (groups : List Group) → result ≡ true
+        → IsShelf h groups shelf.now → HasBucket h groups bucket shelf.now }
 {
     match shelf {
         Some(held) => held.bucket == bucket,
@@ -100,16 +137,22 @@ fn has_bucket(shelf: &Option<Shelf>, bucket: u64) -> bool
 fn lay<D: Disk>(
     alloc: Global,
     disk: &mut D,
-    head: &StaticHead,
+    file: &HeldFile,
     shelf: &mut Option<Shelf>,
     bucket: u64,
 ) -> Result<(), StoreError>
-    requires p { head.now.p ≤ 24 }
-    requires bucket { bucket < 2 ^ head.now.p }
-    ensures value { (groups : List Group) → IfSome (D.image disk.old) (λ f. IsFile head.now f groups → IsShelf head.now groups shelf.old → OnOk result (HasBucket head.now groups bucket shelf.new)) }
-    ensures shelf { (groups : List Group) → IfSome (D.image disk.old) (λ f. IsFile head.now f groups → IsShelf head.now groups shelf.old → IsShelf head.now groups shelf.new) }
+    requires p { file.now.head.p ≤ 24 }
+    requires file { KnowsFile (D.image disk.old) file.now }
+    requires bucket { bucket < 2 ^ file.now.head.p }
+    ensures value { (groups : List Group) → IfSome (D.image disk.old) (λ f.
+        IsFile file.now.head f groups → IsShelf file.now.head groups shelf.old
+        → OnOk result (HasBucket file.now.head groups bucket shelf.new)) }
+    ensures shelf { (groups : List Group) → IfSome (D.image disk.old) (λ f.
+        IsFile file.now.head f groups → IsShelf file.now.head groups shelf.old
+        → IsShelf file.now.head groups shelf.new) }
     ensures image { D.image disk.new ≡ D.image disk.old }
-    ensures still { OnlyReads D.may_leave D.moment D.left_since D.past D.left_with disk.old disk.new }
+    ensures still { OnlyReads D.may_leave D.moment D.left_since D.past D.left_with
+        disk.old disk.new }
     ensures taken { D.taken_count disk.old ≤ D.taken_count disk.new }
     ensures cause { HasCause (D.fault_count disk.old) (D.fault_count disk.new) result }
     ensures never { NeverFull result }
@@ -117,7 +160,7 @@ fn lay<D: Disk>(
     if has_bucket(shelf, bucket) {
         return Ok(());
     }
-    let records = read_bucket(alloc, disk, head, bucket)?;
+    let records = read_bucket(alloc, disk, file, bucket)?;
     *shelf = Some(Shelf { bucket, records });
     Ok(())
 }
@@ -130,7 +173,8 @@ fn copy_of(pair: &Pair) -> Result<Pair, NoMemory>
 
 /// The first record on the shelf within the bound, going up.
 fn first_on(shelf: &Option<Shelf>, bound: &Bound) -> Result<Option<Pair>, NoMemory>
-    ensures { IfSome shelf.now (λ s. IfOk result (λ found. found ≡ first_within Hash bound.now s.records)) }
+    ensures { IfSome shelf.now (λ s.
+        IfOk result (λ found. found ≡ first_within Hash bound.now s.records)) }
 {
     let Some(held) = shelf else {
         return Ok(None);
@@ -143,7 +187,8 @@ fn first_on(shelf: &Option<Shelf>, bound: &Bound) -> Result<Option<Pair>, NoMemo
 
 /// The first record on the shelf within the bound, going down.
 fn last_on(shelf: &Option<Shelf>, bound: &Bound) -> Result<Option<Pair>, NoMemory>
-    ensures { IfSome shelf.now (λ s. IfOk result (λ found. found ≡ last_within Hash bound.now s.records)) }
+    ensures { IfSome shelf.now (λ s.
+        IfOk result (λ found. found ≡ last_within Hash bound.now s.records)) }
 {
     let Some(held) = shelf else {
         return Ok(None);
@@ -158,23 +203,29 @@ fn last_on(shelf: &Option<Shelf>, bound: &Bound) -> Result<Option<Pair>, NoMemor
 fn first_in<D: Disk>(
     alloc: Global,
     disk: &mut D,
-    head: &StaticHead,
+    file: &HeldFile,
     shelf: &mut Option<Shelf>,
     bucket: u64,
     bound: &Bound,
 ) -> Result<Option<Pair>, StoreError>
-    requires p { head.now.p ≤ 24 }
-    requires bucket { bucket < 2 ^ head.now.p }
-    ensures value { (groups : List Group) → IfSome (D.image disk.old) (λ f. IsFile head.now f groups → IsShelf head.now groups shelf.old
-        → IfOk result (λ found. found ≡ first_within Hash bound.now (in_bucket head.now.p bucket (replay Hash groups [])))) }
-    ensures shelf { (groups : List Group) → IfSome (D.image disk.old) (λ f. IsFile head.now f groups → IsShelf head.now groups shelf.old → IsShelf head.now groups shelf.new) }
+    requires p { file.now.head.p ≤ 24 }
+    requires file { KnowsFile (D.image disk.old) file.now }
+    requires bucket { bucket < 2 ^ file.now.head.p }
+    ensures value { (groups : List Group) → IfSome (D.image disk.old) (λ f.
+        IsFile file.now.head f groups → IsShelf file.now.head groups shelf.old
+        → IfOk result (λ found. found ≡ first_within Hash bound.now
+        (in_bucket file.now.head.p bucket (replay Hash groups [])))) }
+    ensures shelf { (groups : List Group) → IfSome (D.image disk.old) (λ f.
+        IsFile file.now.head f groups → IsShelf file.now.head groups shelf.old
+        → IsShelf file.now.head groups shelf.new) }
     ensures image { D.image disk.new ≡ D.image disk.old }
-    ensures still { OnlyReads D.may_leave D.moment D.left_since D.past D.left_with disk.old disk.new }
+    ensures still { OnlyReads D.may_leave D.moment D.left_since D.past D.left_with
+        disk.old disk.new }
     ensures taken { D.taken_count disk.old ≤ D.taken_count disk.new }
     ensures cause { HasCause (D.fault_count disk.old) (D.fault_count disk.new) result }
     ensures never { NeverFull result }
 {
-    lay(alloc, disk, head, shelf, bucket)?;
+    lay(alloc, disk, file, shelf, bucket)?;
     Ok(first_on(shelf, bound)?)
 }
 
@@ -182,23 +233,29 @@ fn first_in<D: Disk>(
 fn last_in<D: Disk>(
     alloc: Global,
     disk: &mut D,
-    head: &StaticHead,
+    file: &HeldFile,
     shelf: &mut Option<Shelf>,
     bucket: u64,
     bound: &Bound,
 ) -> Result<Option<Pair>, StoreError>
-    requires p { head.now.p ≤ 24 }
-    requires bucket { bucket < 2 ^ head.now.p }
-    ensures value { (groups : List Group) → IfSome (D.image disk.old) (λ f. IsFile head.now f groups → IsShelf head.now groups shelf.old
-        → IfOk result (λ found. found ≡ last_within Hash bound.now (in_bucket head.now.p bucket (replay Hash groups [])))) }
-    ensures shelf { (groups : List Group) → IfSome (D.image disk.old) (λ f. IsFile head.now f groups → IsShelf head.now groups shelf.old → IsShelf head.now groups shelf.new) }
+    requires p { file.now.head.p ≤ 24 }
+    requires file { KnowsFile (D.image disk.old) file.now }
+    requires bucket { bucket < 2 ^ file.now.head.p }
+    ensures value { (groups : List Group) → IfSome (D.image disk.old) (λ f.
+        IsFile file.now.head f groups → IsShelf file.now.head groups shelf.old
+        → IfOk result (λ found. found ≡ last_within Hash bound.now
+        (in_bucket file.now.head.p bucket (replay Hash groups [])))) }
+    ensures shelf { (groups : List Group) → IfSome (D.image disk.old) (λ f.
+        IsFile file.now.head f groups → IsShelf file.now.head groups shelf.old
+        → IsShelf file.now.head groups shelf.new) }
     ensures image { D.image disk.new ≡ D.image disk.old }
-    ensures still { OnlyReads D.may_leave D.moment D.left_since D.past D.left_with disk.old disk.new }
+    ensures still { OnlyReads D.may_leave D.moment D.left_since D.past D.left_with
+        disk.old disk.new }
     ensures taken { D.taken_count disk.old ≤ D.taken_count disk.new }
     ensures cause { HasCause (D.fault_count disk.old) (D.fault_count disk.new) result }
     ensures never { NeverFull result }
 {
-    lay(alloc, disk, head, shelf, bucket)?;
+    lay(alloc, disk, file, shelf, bucket)?;
     Ok(last_on(shelf, bound)?)
 }
 
@@ -206,28 +263,33 @@ fn last_in<D: Disk>(
 pub(crate) fn first_record<D: Disk>(
     alloc: Global,
     disk: &mut D,
-    head: &StaticHead,
+    file: &HeldFile,
     shelf: &mut Option<Shelf>,
     bound: &Bound,
 ) -> Result<Option<Pair>, StoreError>
-    requires p { head.now.p ≤ 24 }
-    ensures value { (groups : List Group) → IfSome (D.image disk.old) (λ f. IsFile head.now f groups → IsShelf head.now groups shelf.old
+    requires p { file.now.head.p ≤ 24 }
+    requires file { KnowsFile (D.image disk.old) file.now }
+    ensures value { (groups : List Group) → IfSome (D.image disk.old) (λ f.
+        IsFile file.now.head f groups → IsShelf file.now.head groups shelf.old
         → IfOk result (λ found. found ≡ first_within Hash bound.now (replay Hash groups []))) }
-    ensures shelf { (groups : List Group) → IfSome (D.image disk.old) (λ f. IsFile head.now f groups → IsShelf head.now groups shelf.old → IsShelf head.now groups shelf.new) }
+    ensures shelf { (groups : List Group) → IfSome (D.image disk.old) (λ f.
+        IsFile file.now.head f groups → IsShelf file.now.head groups shelf.old
+        → IsShelf file.now.head groups shelf.new) }
     ensures image { D.image disk.new ≡ D.image disk.old }
-    ensures still { OnlyReads D.may_leave D.moment D.left_since D.past D.left_with disk.old disk.new }
+    ensures still { OnlyReads D.may_leave D.moment D.left_since D.past D.left_with
+        disk.old disk.new }
     ensures taken { D.taken_count disk.old ≤ D.taken_count disk.new }
     ensures cause { HasCause (D.fault_count disk.old) (D.fault_count disk.new) result }
     ensures never { NeverFull result }
 {
-    let end = number_of_buckets(head.p);
-    let mut bucket = first_bucket(bound, head.p);
+    let end = number_of_buckets(file.head.p);
+    let mut bucket = first_bucket(bound, file.head.p);
     while bucket < end {
-        let found = first_in(alloc, disk, head, shelf, bucket, bound)?;
+        let found = first_in(alloc, disk, file, shelf, bucket, bound)?;
         if found.is_some() {
             return Ok(found);
         }
-        bucket = next_filled(disk, bucket + 1, end)?;
+        bucket = next_filled(file.heads, bucket + 1);
     }
     Ok(None)
 }
@@ -236,27 +298,32 @@ pub(crate) fn first_record<D: Disk>(
 pub(crate) fn last_record<D: Disk>(
     alloc: Global,
     disk: &mut D,
-    head: &StaticHead,
+    file: &HeldFile,
     shelf: &mut Option<Shelf>,
     bound: &Bound,
 ) -> Result<Option<Pair>, StoreError>
-    requires p { head.now.p ≤ 24 }
-    ensures value { (groups : List Group) → IfSome (D.image disk.old) (λ f. IsFile head.now f groups → IsShelf head.now groups shelf.old
+    requires p { file.now.head.p ≤ 24 }
+    requires file { KnowsFile (D.image disk.old) file.now }
+    ensures value { (groups : List Group) → IfSome (D.image disk.old) (λ f.
+        IsFile file.now.head f groups → IsShelf file.now.head groups shelf.old
         → IfOk result (λ found. found ≡ last_within Hash bound.now (replay Hash groups []))) }
-    ensures shelf { (groups : List Group) → IfSome (D.image disk.old) (λ f. IsFile head.now f groups → IsShelf head.now groups shelf.old → IsShelf head.now groups shelf.new) }
+    ensures shelf { (groups : List Group) → IfSome (D.image disk.old) (λ f.
+        IsFile file.now.head f groups → IsShelf file.now.head groups shelf.old
+        → IsShelf file.now.head groups shelf.new) }
     ensures image { D.image disk.new ≡ D.image disk.old }
-    ensures still { OnlyReads D.may_leave D.moment D.left_since D.past D.left_with disk.old disk.new }
+    ensures still { OnlyReads D.may_leave D.moment D.left_since D.past D.left_with
+        disk.old disk.new }
     ensures taken { D.taken_count disk.old ≤ D.taken_count disk.new }
     ensures cause { HasCause (D.fault_count disk.old) (D.fault_count disk.new) result }
     ensures never { NeverFull result }
 {
-    let mut end = end_bucket(bound, head.p);
+    let mut end = end_bucket(bound, file.head.p);
     while end > 0 {
-        let found = last_in(alloc, disk, head, shelf, end - 1, bound)?;
+        let found = last_in(alloc, disk, file, shelf, end - 1, bound)?;
         if found.is_some() {
             return Ok(found);
         }
-        end = filled_below(disk, end - 1)?;
+        end = filled_below(file.heads, end - 1);
     }
     Ok(None)
 }

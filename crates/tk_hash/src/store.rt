@@ -4,12 +4,12 @@ ghost use Rattle.tk_disk.specs.Crash.{Only};
 ghost use Rattle.tk_model.specs.Records.{find, AllFit, IsClearAlone};
 ghost use Rattle.tk_model.specs.declared.record.Group.{Group};
 ghost use Rattle.tk_model.specs.declared.record.Change.{Change as Changed};
-ghost use Rattle.tk_store.specs.Store.{First, groups_made_by, ended_by, extent_of as change_extent, HasCause, NeverFull, OkOrFault, UnlessFault, OnNoMemory, IsWhole, GivesInto, Keeps, KeepsSince, LeavesSafe, OnlyLooks, GoesOn};
+ghost use Rattle.tk_store.specs.Store.{First, groups_made_by, ended_by, extent_of as change_extent, NeverFull, OkOrFault, UnlessFault, OnNoMemory, IsWhole, GivesInto, Keeps, KeepsSince, LeavesSafe, OnlyLooks, GoesOn};
 ghost use Rattle.tk_append.specs.Log.{closed_text};
 
 use crate::found::FoundKey;
 use crate::plan::{NewHeads, plan_changes, put_heads, set_heads};
-use crate::seek::{get_value, get_value_into};
+use crate::seek::{HeldFile, get_value, get_value_into};
 use crate::shelf::{Shelf, first_record, last_record};
 use std::alloc::Global;
 use tk_append::{GroupLog, extent_of_change};
@@ -79,6 +79,7 @@ fn as_store_error<T>(answer: Result<T, DiskError>) -> Result<T, StoreError>
 impl<D: Disk> HashStore<D> {
     ghost use Rattle.tk_hash.specs.Hash.{hash_disk, hash_head, hash_closing, hash_constants, hash_view, groups_held, IsReservedGroup, HashStands, HashKeptSince, KeepsGroups, opening};
     ghost use Rattle.tk_hash.specs.Fair.{KeepsFair};
+    ghost use Rattle.tk_hash.specs.Relations.{FromStands, HashCause};
 
     /// Makes a group of these changes ready.
     fn reserve_changes(&mut self, changes: &ChangeList) -> Result<ReservedGroup, StoreError>
@@ -86,25 +87,30 @@ impl<D: Disk> HashStore<D> {
         requires some { changes.now ≢ [] }
         requires fit { AllFit changes.now }
         requires alone { IsClearAlone changes.now }
-        requires end { (hash_view D.image self.old).size + sum_by (change_extent 1) changes.now ≤ 2 ^ 40 }
+        requires end { (hash_view D.image self.old).size + sum_by (change_extent 1) changes.now
+            ≤ 2 ^ 40 }
+        // the answer, and the store as it was
         ensures reserved_group { IfOk result (IsReservedGroup D.image self.new changes.now) }
         ensures stands { Keeps (HashStands D.image D.may_leave D.past) self.old self.new }
-        ensures since { KeepsSince (HashKeptSince D.image D.may_leave D.past D.moment D.left_since D.left_with) self.old self.new }
+        ensures since { KeepsSince (HashKeptSince D.image D.may_leave D.past D.moment D.left_since
+            D.left_with) self.old self.new }
         ensures constants { hash_constants self.new ≡ hash_constants self.old }
         ensures store_view { hash_view D.image self.new ≡ hash_view D.image self.old }
+        // its counts
         ensures time { D.moment (hash_disk self.old) ≤ D.moment (hash_disk self.new) }
         ensures taken { D.taken_count (hash_disk self.old) ≤ D.taken_count (hash_disk self.new) }
-        ensures cause { HasCause (D.fault_count (hash_disk self.old)) (D.fault_count (hash_disk self.new)) result }
+        ensures cause { HashCause D.fault_count self.old self.new result }
         ensures never { NeverFull result }
     {
-        let head = *self.log.head();
-        let end = self.log.end();
+        let file = HeldFile {
+            head: *self.log.head(),
+            heads: &self.heads,
+            end: self.log.end(),
+        };
         let plan = plan_changes(
             self.alloc,
             self.log.disk(),
-            &head,
-            &self.heads,
-            end,
+            &file,
             self.count,
             &mut self.buffer,
             &self.found,
@@ -124,28 +130,42 @@ impl<D: Disk> HashStore<D> {
         reserved_group: ReservedGroup,
     ) -> Result<(), StoreError>
         requires whole { IsWhole (HashStands D.image D.may_leave D.past) self.old }
-        requires reserved_group { (changes : List Changed) × IsReservedGroup D.image self.old changes reserved_group }
+        requires reserved_group { (changes : List Changed)
+            × IsReservedGroup D.image self.old changes reserved_group }
         requires writable { (hash_constants self.old).writable ≡ true }
         requires number { (hash_view D.image self.old).floor ≤ number }
-        ensures stands { (changes : List Changed) → IsReservedGroup D.image self.old changes reserved_group → AllFit changes → IsClearAlone changes
-            → (first : First) (since : List Group) (hard : ℕ) → HashStands D.image D.may_leave D.past self.old first since hard
-            → OnOk result (HashStands D.image D.may_leave D.past self.new first (since ++ record { number = number; changes = changes } ∷ []) hard) }
-        ensures kept { (first : First) (since : List Group) (hard : ℕ) → HashStands D.image D.may_leave D.past self.old first since hard
-            → KeepsGroups D.may_leave D.moment D.left_since (hash_head self.old) (groups_held first.held ++ take hard since) (hash_disk self.old) (hash_disk self.new) }
-        ensures fair { (changes : List Changed) → IsReservedGroup D.image self.old changes reserved_group
-            → (first : First) (since : List Group) (hard : ℕ) → HashStands D.image D.may_leave D.past self.old first since hard
-            → KeepsFair D.past D.moment D.left_with (hash_head self.old) (groups_held first.held ++ since)
-            (record { number = number; changes = changes } ∷ []) (hash_disk self.old) (hash_disk self.new) }
-        ensures size { (changes : List Changed) → IsReservedGroup D.image self.old changes reserved_group
-            → OnOk result ((hash_view D.image self.new).size ≡ (hash_view D.image self.old).size + sum_by (change_extent 1) changes) }
+        // what the store stands for
+        ensures stands { (changes : List Changed) → IsReservedGroup D.image self.old changes
+            reserved_group → AllFit changes → IsClearAlone changes
+            → FromStands (HashStands D.image D.may_leave D.past) self.old
+            (λ first since hard. OnOk result (HashStands D.image D.may_leave D.past self.new first
+            (since ++ record { number = number; changes = changes } ∷ []) hard)) }
+        // a crash
+        ensures kept { FromStands (HashStands D.image D.may_leave D.past) self.old
+            (λ first since hard. KeepsGroups D.may_leave D.moment D.left_since (hash_head self.old)
+            (groups_held first.held ++ take hard since) (hash_disk self.old) (hash_disk self.new)) }
+        ensures fair { (changes : List Changed) → IsReservedGroup D.image self.old changes
+            reserved_group
+            → FromStands (HashStands D.image D.may_leave D.past) self.old
+            (λ first since hard. KeepsFair D.past D.moment D.left_with (hash_head self.old)
+            (groups_held first.held ++ since)
+            (record { number = number; changes = changes } ∷ []) (hash_disk self.old)
+            (hash_disk self.new)) }
+        // the state
+        ensures size { (changes : List Changed) → IsReservedGroup D.image self.old changes
+            reserved_group
+            → OnOk result ((hash_view D.image self.new).size ≡ (hash_view D.image self.old).size
+            + sum_by (change_extent 1) changes) }
         ensures floor { OnOk result ((hash_view D.image self.new).floor ≡ number + 1) }
         ensures constants { hash_constants self.new ≡ hash_constants self.old }
         ensures head { hash_head self.new ≡ hash_head self.old }
         ensures open { (hash_view D.image self.new).closed ≡ (hash_view D.image self.old).closed }
-        ensures told { is_some (D.image (hash_disk self.new)) ≡ is_some (D.image (hash_disk self.old)) }
+        ensures told { is_some (D.image (hash_disk self.new))
+            ≡ is_some (D.image (hash_disk self.old)) }
+        // its counts
         ensures time { D.moment (hash_disk self.old) ≤ D.moment (hash_disk self.new) }
         ensures taken { D.taken_count (hash_disk self.new) ≡ D.taken_count (hash_disk self.old) }
-        ensures cause { HasCause (D.fault_count (hash_disk self.old)) (D.fault_count (hash_disk self.new)) result }
+        ensures cause { HashCause D.fault_count self.old self.new result }
         ensures answers { OkOrFault result }
     {
         self.shelf = None;
@@ -163,25 +183,37 @@ impl<D: Disk> HashStore<D> {
         requires whole { IsWhole (HashStands D.image D.may_leave D.past) self.old }
         requires writable { (hash_constants self.old).writable ≡ true }
         requires closed { (hash_view D.image self.old).closed ≡ true }
-        ensures stands { (first : First) (since : List Group) (hard : ℕ) → HashStands D.image D.may_leave D.past self.old first since hard
-            → OnOk result (HashStands D.image D.may_leave D.past self.new first since (length since)) }
-        ensures kept { (first : First) (since : List Group) (hard : ℕ) → HashStands D.image D.may_leave D.past self.old first since hard
-            → KeepsGroups D.may_leave D.moment D.left_since (hash_head self.old) (groups_held first.held ++ take hard since) (hash_disk self.old) (hash_disk self.new) }
-        ensures fair { (first : First) (since : List Group) (hard : ℕ) → HashStands D.image D.may_leave D.past self.old first since hard
-            → IfSome (D.image (hash_disk self.old)) (λ _. KeepsFair D.past D.moment D.left_with (hash_head self.old)
-            (groups_held first.held ++ since) [] (hash_disk self.old) (hash_disk self.new)) }
-        ensures file { (groups since : List Group) (hard : ℕ) → HashStands D.image D.may_leave D.past self.old (opening groups) since hard
-            → OnOk result (IfSome (D.image (hash_disk self.old)) (λ _. D.image (hash_disk self.new) ≡ Some (closed_text (hash_head self.old) (groups ++ since) next))) }
-        ensures durable { OnOk result (IfSome (D.image (hash_disk self.new)) (λ f. Only f (D.may_leave (hash_disk self.new)))) }
+        // what the store stands for
+        ensures stands { FromStands (HashStands D.image D.may_leave D.past) self.old
+            (λ first since hard. OnOk result (HashStands D.image D.may_leave D.past self.new first
+            since (length since))) }
+        // a crash
+        ensures kept { FromStands (HashStands D.image D.may_leave D.past) self.old
+            (λ first since hard. KeepsGroups D.may_leave D.moment D.left_since (hash_head self.old)
+            (groups_held first.held ++ take hard since) (hash_disk self.old) (hash_disk self.new)) }
+        ensures fair { FromStands (HashStands D.image D.may_leave D.past) self.old
+            (λ first since hard. IfSome (D.image (hash_disk self.old))
+            (λ _. KeepsFair D.past D.moment D.left_with (hash_head self.old)
+            (groups_held first.held ++ since) [] (hash_disk self.old) (hash_disk self.new))) }
+        // the file
+        ensures file { (groups since : List Group) (hard : ℕ)
+            → HashStands D.image D.may_leave D.past self.old (opening groups) since hard
+            → OnOk result (IfSome (D.image (hash_disk self.old)) (λ _. D.image (hash_disk self.new)
+            ≡ Some (closed_text (hash_head self.old) (groups ++ since) next))) }
+        ensures durable { OnOk result (IfSome (D.image (hash_disk self.new))
+            (λ f. Only f (D.may_leave (hash_disk self.new)))) }
+        // the state
         ensures ended { OnOk result ((hash_view D.image self.new).ended ≡ Some next) }
         ensures unended { OnErr result (hash_closing self.new ≡ hash_closing self.old) }
         ensures constants { hash_constants self.new ≡ hash_constants self.old }
         ensures head { hash_head self.new ≡ hash_head self.old }
         ensures closed { (hash_view D.image self.new).closed ≡ (hash_view D.image self.old).closed }
-        ensures told { is_some (D.image (hash_disk self.new)) ≡ is_some (D.image (hash_disk self.old)) }
+        ensures told { is_some (D.image (hash_disk self.new))
+            ≡ is_some (D.image (hash_disk self.old)) }
+        // its counts
         ensures time { D.moment (hash_disk self.old) ≤ D.moment (hash_disk self.new) }
         ensures taken { D.taken_count (hash_disk self.new) ≡ D.taken_count (hash_disk self.old) }
-        ensures cause { HasCause (D.fault_count (hash_disk self.old)) (D.fault_count (hash_disk self.new)) result }
+        ensures cause { HashCause D.fault_count self.old self.new result }
         ensures answers { OkOrFault result }
     {
         as_store_error(self.log.close_log(self.count, next))?;
@@ -220,6 +252,7 @@ impl<D: Disk> HashStore<D> {
 impl<D: Disk> SeqStore for HashStore<D> {
     ghost use Rattle.std.specs.Prelude.{true, Bool};
     ghost use Rattle.tk_hash.specs.Hash.{hash_disk, hash_head, hash_constants, hash_view, HashUntouched, HashStands, HashReserved, HashSafe, HashKeptSince, opening};
+    ghost use Rattle.tk_hash.specs.Relations.{FromStands, HashCause, with_close};
     ghost use Rattle.tk_hash.specs.HashLaws.{hash_replays, hash_rising, hash_held, hash_stood_now, hash_stood_less, hash_safe_less, hash_by_extents, hash_unended, hash_values, hash_untouched_same, hash_untouched_then};
 
     ghost constants = { hash_constants };
@@ -234,9 +267,11 @@ impl<D: Disk> SeqStore for HashStore<D> {
 
     ghost safe = { HashSafe D.image D.left_since D.left_with };
 
-    ghost kept_since = { HashKeptSince D.image D.may_leave D.past D.moment D.left_since D.left_with };
+    ghost kept_since = { HashKeptSince D.image D.may_leave D.past D.moment D.left_since
+        D.left_with };
 
-    ghost untouched = { HashUntouched D.image D.may_leave D.past D.moment D.left_since D.left_with };
+    ghost untouched = { HashUntouched D.image D.may_leave D.past D.moment D.left_since
+        D.left_with };
 
     ghost lawful = { λ m. true };
 
@@ -254,9 +289,11 @@ impl<D: Disk> SeqStore for HashStore<D> {
 
     ghost synced = { λ s first since hard st. st.synced };
 
-    ghost stood_now = { hash_stood_now D.image D.may_leave D.past D.moment D.left_since D.left_with D.only_now D.only_with D.since_with };
+    ghost stood_now = { hash_stood_now D.image D.may_leave D.past D.moment D.left_since D.left_with
+        D.only_now D.only_with D.since_with };
 
-    ghost stood_less = { hash_stood_less D.image D.left_since D.left_with D.may_leave D.past D.moment };
+    ghost stood_less = { hash_stood_less D.image D.left_since D.left_with D.may_leave D.past
+        D.moment };
 
     ghost stood_stands = { λ s t n first since hard st. st.stands };
 
@@ -268,9 +305,11 @@ impl<D: Disk> SeqStore for HashStore<D> {
 
     ghost values = { hash_values };
 
-    ghost untouched_same = { hash_untouched_same D.image D.may_leave D.past D.moment D.left_since D.left_with };
+    ghost untouched_same = { hash_untouched_same D.image D.may_leave D.past D.moment D.left_since
+        D.left_with };
 
-    ghost untouched_then = { hash_untouched_then D.image D.may_leave D.past D.moment D.left_since D.left_with D.counts_now D.counts_with };
+    ghost untouched_then = { hash_untouched_then D.image D.may_leave D.past D.moment D.left_since
+        D.left_with D.counts_now D.counts_with };
 
     ghost tells_need = { λ s changes told. Prim.cc };
 
@@ -305,48 +344,63 @@ impl<D: Disk> SeqStore for HashStore<D> {
     }
 
     fn get(&mut self, key: &[u8], out: &mut Bytes) -> Result<bool, StoreError> {
-        let head = *self.log.head();
+        let file = HeldFile {
+            head: *self.log.head(),
+            heads: &self.heads,
+            end: self.log.end(),
+        };
         let present = get_value(
             self.alloc,
             self.log.disk(),
-            &head,
-            &self.heads,
+            &file,
             &mut self.buffer,
             key,
             out,
         )?;
-        self.found.remember(key, present);
+        // Without memory for the key, the next change looks it up again.
+        let _ = self.found.remember(key, present);
         Ok(present)
     }
 
     fn get_into(&mut self, key: &[u8], into: &mut [u8]) -> Result<Option<u32>, StoreError>
         requires whole { IsWhole (HashStands D.image D.may_leave D.past) self.old }
-        ensures value { IfSome (hash_view D.image self.old).map (λ m. IfOk result (GivesInto (find key.now m) into.old into.new)) }
-        ensures cost { IfSome ((hash_view D.image self.old).cost key.now) (λ most. D.taken_count (hash_disk self.new) ≤ D.taken_count (hash_disk self.old) + most) }
-        ensures looks { OnlyLooks hash_constants (hash_view D.image) (HashStands D.image D.may_leave D.past) (HashKeptSince D.image D.may_leave D.past D.moment D.left_since D.left_with)
-            (HashUntouched D.image D.may_leave D.past D.moment D.left_since D.left_with) (λ s. D.moment (hash_disk s)) (λ s. D.taken_count (hash_disk s)) self.old self.new }
-        ensures cause { HasCause (D.fault_count (hash_disk self.old)) (D.fault_count (hash_disk self.new)) result }
+        ensures value { IfSome (hash_view D.image self.old).map
+            (λ m. IfOk result (GivesInto (find key.now m) into.old into.new)) }
+        ensures cost { IfSome ((hash_view D.image self.old).cost key.now)
+            (λ most. D.taken_count (hash_disk self.new) ≤ D.taken_count (hash_disk self.old)
+            + most) }
+        ensures looks { OnlyLooks hash_constants (hash_view D.image)
+            (HashStands D.image D.may_leave D.past) (HashKeptSince D.image D.may_leave D.past
+            D.moment D.left_since D.left_with)
+            (HashUntouched D.image D.may_leave D.past D.moment D.left_since D.left_with)
+            (λ s. D.moment (hash_disk s)) (λ s. D.taken_count (hash_disk s)) self.old self.new }
+        ensures cause { HashCause D.fault_count self.old self.new result }
         ensures answers { OkOrFault result }
     {
-        let head = *self.log.head();
-        get_value_into(
-            self.log.disk(),
-            &head,
-            &self.heads,
-            &mut self.buffer,
-            key,
-            into,
-        )
+        let file = HeldFile {
+            head: *self.log.head(),
+            heads: &self.heads,
+            end: self.log.end(),
+        };
+        get_value_into(self.log.disk(), &file, &mut self.buffer, key, into)
     }
 
     fn next(&mut self, bound: &Bound) -> Result<Option<Pair>, StoreError> {
-        let head = *self.log.head();
-        first_record(self.alloc, self.log.disk(), &head, &mut self.shelf, bound)
+        let file = HeldFile {
+            head: *self.log.head(),
+            heads: &self.heads,
+            end: self.log.end(),
+        };
+        first_record(self.alloc, self.log.disk(), &file, &mut self.shelf, bound)
     }
 
     fn prev(&mut self, bound: &Bound) -> Result<Option<Pair>, StoreError> {
-        let head = *self.log.head();
-        last_record(self.alloc, self.log.disk(), &head, &mut self.shelf, bound)
+        let file = HeldFile {
+            head: *self.log.head(),
+            heads: &self.heads,
+            end: self.log.end(),
+        };
+        last_record(self.alloc, self.log.disk(), &file, &mut self.shelf, bound)
     }
 
     fn check_group(&mut self, changes: &ChangeList) -> Result<u64, StoreError> {
@@ -384,28 +438,51 @@ impl<D: Disk> SeqStore for HashStore<D> {
     fn close(&mut self, next: u64) -> Result<(), StoreError>
         requires whole { IsWhole (HashStands D.image D.may_leave D.past) self.old }
         requires open { (hash_view D.image self.old).closed ≡ false }
-        requires number { (hash_constants self.old).writable ≡ true → (hash_view D.image self.old).floor ≤ next }
+        requires number { (hash_constants self.old).writable ≡ true
+            → (hash_view D.image self.old).floor ≤ next }
         requires below { (hash_constants self.old).writable ≡ true → next < 2 ^ 64 - 1 }
-        ensures stands { (first : First) (since : List Group) (hard : ℕ) → HashStands D.image D.may_leave D.past self.old first since hard
-            → OnOk result (HashStands D.image D.may_leave D.past self.new first (since ++ groups_made_by (hash_constants self.old) next []) (length (since ++ groups_made_by (hash_constants self.old) next []))) }
-        ensures map { UnlessFault result ((hash_view D.image self.new).map ≡ (hash_view D.image self.old).map) }
-        ensures since { (t n : ℕ) (first : First) (since : List Group) (hard : ℕ) → HashKeptSince D.image D.may_leave D.past D.moment D.left_since D.left_with self.old t n first since hard
-            → OnOk result (HashKeptSince D.image D.may_leave D.past D.moment D.left_since D.left_with self.new t n first (since ++ groups_made_by (hash_constants self.old) next []) (length (since ++ groups_made_by (hash_constants self.old) next []))) }
-        ensures safe { LeavesSafe (HashKeptSince D.image D.may_leave D.past D.moment D.left_since D.left_with) (HashSafe D.image D.left_since D.left_with) (groups_made_by (hash_constants self.old) next []) self.old self.new }
+        // what the store stands for
+        ensures stands { FromStands (HashStands D.image D.may_leave D.past) self.old
+            (λ first since hard. OnOk result (HashStands D.image D.may_leave D.past self.new first
+            (with_close self.old next since) (length (with_close self.old next since)))) }
+        ensures map { UnlessFault result ((hash_view D.image self.new).map
+            ≡ (hash_view D.image self.old).map) }
+        ensures since { (t n : ℕ) (first : First) (since : List Group) (hard : ℕ)
+            → HashKeptSince D.image D.may_leave D.past D.moment D.left_since D.left_with self.old t
+            n first since hard
+            → OnOk result (HashKeptSince D.image D.may_leave D.past D.moment D.left_since
+            D.left_with self.new t n first (with_close self.old next since)
+            (length (with_close self.old next since))) }
+        ensures safe { LeavesSafe (HashKeptSince D.image D.may_leave D.past D.moment D.left_since
+            D.left_with) (HashSafe D.image D.left_since D.left_with)
+            (groups_made_by (hash_constants self.old) next []) self.old self.new }
+        // the state
         ensures closed { (hash_view D.image self.new).closed ≡ true }
-        ensures ended { OnOk result ((hash_view D.image self.new).ended ≡ ended_by (hash_constants self.old) next) }
+        ensures ended { OnOk result ((hash_view D.image self.new).ended ≡ ended_by
+            (hash_constants self.old) next) }
         ensures unended { OnErr result ((hash_view D.image self.new).ended ≡ None) }
-        ensures kept { OnNoMemory result (Keeps (HashStands D.image D.may_leave D.past) self.old self.new × KeepsSince (HashKeptSince D.image D.may_leave D.past D.moment D.left_since D.left_with) self.old self.new) }
-        ensures goes_on { GoesOn hash_constants (hash_view D.image) (λ s. D.moment (hash_disk s)) (λ s. D.taken_count (hash_disk s)) self.old self.new }
-        ensures cause { HasCause (D.fault_count (hash_disk self.old)) (D.fault_count (hash_disk self.new)) result }
+        ensures kept { OnNoMemory result (Keeps (HashStands D.image D.may_leave D.past) self.old
+            self.new × KeepsSince (HashKeptSince D.image D.may_leave D.past D.moment D.left_since
+            D.left_with) self.old self.new) }
+        ensures goes_on { GoesOn hash_constants (hash_view D.image) (λ s. D.moment (hash_disk s))
+            (λ s. D.taken_count (hash_disk s)) self.old self.new }
+        // its counts
+        ensures cause { HashCause D.fault_count self.old self.new result }
         ensures never { NeverFull result }
         ensures answers { OkOrFault result }
-        ensures file { (groups since : List Group) (hard : ℕ) → HashStands D.image D.may_leave D.past self.old (opening groups) since hard
+        // the file
+        ensures file { (groups since : List Group) (hard : ℕ)
+            → HashStands D.image D.may_leave D.past self.old (opening groups) since hard
             → OnOk result (IfSome (D.image (hash_disk self.old)) (λ _. D.image (hash_disk self.new)
             ≡ Some (if (hash_constants self.old).writable then closed_text (hash_head self.old) (groups ++ since) next else closed_text (hash_head self.old) groups (hash_constants self.old).next))) }
-        ensures durable { (hash_constants self.old).writable ≡ true → OnOk result (IfSome (D.image (hash_disk self.new)) (λ f. Only f (D.may_leave (hash_disk self.new)))) }
-        ensures reads { (hash_constants self.old).writable ≡ false → HashUntouched D.image D.may_leave D.past D.moment D.left_since D.left_with self.old self.new }
-        ensures told { is_some (D.image (hash_disk self.new)) ≡ is_some (D.image (hash_disk self.old)) }
+        ensures durable { (hash_constants self.old).writable ≡ true
+            → OnOk result (IfSome (D.image (hash_disk self.new))
+            (λ f. Only f (D.may_leave (hash_disk self.new)))) }
+        ensures reads { (hash_constants self.old).writable ≡ false
+            → HashUntouched D.image D.may_leave D.past D.moment D.left_since D.left_with self.old
+            self.new }
+        ensures told { is_some (D.image (hash_disk self.new))
+            ≡ is_some (D.image (hash_disk self.old)) }
     {
         self.closed = true;
         self.reserved_group = None;

@@ -326,6 +326,15 @@ fn records_of_many_buckets(rt: HostRuntime) -> Result<(), Fail> {
     Ok(())
 }
 
+#[test]
+fn records_far_apart(rt: HostRuntime) -> Result<(), Fail> {
+    let alloc = rt.alloc();
+    let mut store = fresh(alloc, 12, LIMIT, &[])?;
+    let filled = fills(alloc, &mut store);
+    assert!(rt; filled?);
+    Ok(())
+}
+
 /// Adds a change that sets a key.
 fn add_put(
     alloc: Global,
@@ -333,7 +342,8 @@ fn add_put(
     key: &[u8],
     value: &[u8],
 ) -> Result<(), NoMemory>
-    ensures { OnOk result (changes.new ≡ changes.old ++ Put (record { key = key.now; value = value.now }) ∷ []) }
+    ensures { OnOk result (changes.new ≡ changes.old ++ Put
+        (record { key = key.now; value = value.now }) ∷ []) }
 {
     let key = Bytes::from_slice(alloc, key)?;
     let value = Bytes::from_slice(alloc, value)?;
@@ -571,7 +581,8 @@ pub(crate) fn sync_hard(store: &mut HashStore<MemDisk>) -> Result<(), StoreError
     requires whole { IsWhole (HashStands mem_image MemMayLeave mem_past) store.old }
     requires open { (hash_view mem_image store.old).closed ≡ false }
     ensures whole { OnOk result (IsWhole (HashStands mem_image MemMayLeave mem_past) store.new) }
-    ensures store_view { OnOk result (hash_view mem_image store.new ≡ hash_view mem_image store.old) }
+    ensures store_view { OnOk result (hash_view mem_image store.new ≡ hash_view mem_image
+        store.old) }
     ensures constants { hash_constants store.new ≡ hash_constants store.old }
 {
     store.sync(true)?;

@@ -1,11 +1,11 @@
-use Rattle.std.proofs.Common.{◌≡◌, ℕ, ◌+◌, ◌≤◌, List, length, sym, ◌∙◌, subst}
+use Rattle.std.proofs.Common.{◌≡◌, ℕ, ◌+◌, ◌≤◌, List, length, sym, ◌∙◌, subst, arith}
 use Rattle.std.specs.Prelude.{Option, IfSome, OnOk}
 use Rattle.std.specs.Option.{option_map}
 use Rattle.std.proofs.lemmas.Option.{IfSome_then}
 use Rattle.tk_disk.specs.Crash.{Torn, Follows}
 use Rattle.tk_disk.specs.Disk.{put_at}
 use Rattle.tk_block.specs.Number.{u64_in}
-use Rattle.tk_buckets.proofs.Cuts.{found_in, cell_in, cut_in, cut_written, cut_leaves, cut_spares, nothing_torn, cell_torn}
+use Rattle.tk_buckets.proofs.Cuts.{found_in, cell_in, cut_in, cut_written, cut_leaves, cut_spares, nothing_torn, cell_torn, cost_none, cost_in_chain, bound_none, bound_in_file}
 use Rattle.tk_disk.specs.Past.{Past, Writes}
 use Rattle.tk_disk.proofs.Moments.{time_joined, reads_joined, pasts_joined}
 use Rattle.tk_buckets.proofs.Moments.{cell_only, of_cut, told_cell, writes_only}
@@ -156,3 +156,46 @@ pub returns-clause-pasts : goal.returns-clause-pasts
 returns-clause-pasts g c = λ places.
     IfSome_then (g.D.Disk.image c.args.disk.now) (returns-clause-past g c places)
     (λ f known chain has. writes_only g.D.Disk.may_leave g.D.Disk.moment g.D.Disk.past g.D.Disk.left_with g.met.D.Disk.only_with c.args.disk.now c.write_at.new.self (returns-clause-time_with g c) _ _ (known chain has))
+
+pub returns-in_err-len-clause-cost : goal.returns-in_err-len-clause-cost
+returns-in_err-len-clause-cost g c = λ places.
+    cost_none c.args.head.now (g.D.Disk.image c.args.disk.now) c.args.bucket c.args.place places (g.D.Disk.taken_count c.args.disk.now) (g.D.Disk.taken_count c.len.new.self) (omega (arith, c.len.ensures.taken))
+
+pub returns-in_err-len-clause-bound : goal.returns-in_err-len-clause-bound
+returns-in_err-len-clause-bound g c = bound_none (g.D.Disk.image c.args.disk.now) (g.D.Disk.taken_count c.args.disk.now) (g.D.Disk.taken_count c.len.new.self) (omega (arith, c.len.ensures.taken))
+
+pub returns-in_err-cell-clause-cost : goal.returns-in_err-cell-clause-cost
+returns-in_err-cell-clause-cost g c = λ places.
+    cost_in_chain c.args.head.now (g.D.Disk.image c.args.disk.now) (g.D.Disk.image c.len.new.self) c.args.bucket c.args.place places (g.D.Disk.taken_count c.args.disk.now) (g.D.Disk.taken_count c.len.new.self) (g.D.Disk.taken_count c.cell_of.new.disk) (g.D.Disk.taken_count c.cell_of.new.disk)
+    c.requires.bucket c.len.ensures.image (omega (arith, c.len.ensures.taken)) (c.cell_of.ensures.cost c.args.head.now places) (omega (arith))
+
+pub returns-in_err-cell-clause-bound : goal.returns-in_err-cell-clause-bound
+returns-in_err-cell-clause-bound g c =
+    bound_in_file (g.D.Disk.image c.args.disk.now) (g.D.Disk.taken_count c.args.disk.now) (g.D.Disk.taken_count c.cell_of.new.disk) c.in_ok-len.len c.in_ok-len.ensures.value (omega (arith, c.len.ensures.taken, c.cell_of.ensures.bound))
+
+pub returns-in_default-clause-cost : goal.returns-in_default-clause-cost
+returns-in_default-clause-cost g c = λ places.
+    cost_in_chain c.args.head.now (g.D.Disk.image c.args.disk.now) (g.D.Disk.image c.len.new.self) c.args.bucket c.args.place places (g.D.Disk.taken_count c.args.disk.now) (g.D.Disk.taken_count c.len.new.self) (g.D.Disk.taken_count c.cell_of.new.disk) (g.D.Disk.taken_count c.cell_of.new.disk)
+    c.requires.bucket c.len.ensures.image (omega (arith, c.len.ensures.taken)) (c.cell_of.ensures.cost c.args.head.now places) (omega (arith))
+
+pub returns-in_default-clause-bound : goal.returns-in_default-clause-bound
+returns-in_default-clause-bound g c =
+    bound_in_file (g.D.Disk.image c.args.disk.now) (g.D.Disk.taken_count c.args.disk.now) (g.D.Disk.taken_count c.cell_of.new.disk) c.in_ok-len.len c.in_ok-len.ensures.value (omega (arith, c.len.ensures.taken, c.cell_of.ensures.bound))
+
+pub returns-in_err-link-clause-cost : goal.returns-in_err-link-clause-cost
+returns-in_err-link-clause-cost g c = λ places.
+    cost_in_chain c.args.head.now (g.D.Disk.image c.args.disk.now) (g.D.Disk.image c.len.new.self) c.args.bucket c.args.place places (g.D.Disk.taken_count c.args.disk.now) (g.D.Disk.taken_count c.len.new.self) (g.D.Disk.taken_count c.cell_of.new.disk) (g.D.Disk.taken_count c.number_at.new.disk)
+    c.requires.bucket c.len.ensures.image (omega (arith, c.len.ensures.taken)) (c.cell_of.ensures.cost c.args.head.now places) (omega (arith, c.number_at.ensures.taken))
+
+pub returns-in_err-link-clause-bound : goal.returns-in_err-link-clause-bound
+returns-in_err-link-clause-bound g c =
+    bound_in_file (g.D.Disk.image c.args.disk.now) (g.D.Disk.taken_count c.args.disk.now) (g.D.Disk.taken_count c.number_at.new.disk) c.in_ok-len.len c.in_ok-len.ensures.value (omega (arith, c.len.ensures.taken, c.cell_of.ensures.bound, c.number_at.ensures.taken))
+
+pub returns-clause-cost : goal.returns-clause-cost
+returns-clause-cost g c = λ places.
+    cost_in_chain c.args.head.now (g.D.Disk.image c.args.disk.now) (g.D.Disk.image c.len.new.self) c.args.bucket c.args.place places (g.D.Disk.taken_count c.args.disk.now) (g.D.Disk.taken_count c.len.new.self) (g.D.Disk.taken_count c.cell_of.new.disk) (g.D.Disk.taken_count c.write_at.new.self)
+    c.requires.bucket c.len.ensures.image (omega (arith, c.len.ensures.taken)) (c.cell_of.ensures.cost c.args.head.now places) (omega (arith, c.number_at.ensures.taken, c.write_at.ensures.taken))
+
+pub returns-clause-bound : goal.returns-clause-bound
+returns-clause-bound g c =
+    bound_in_file (g.D.Disk.image c.args.disk.now) (g.D.Disk.taken_count c.args.disk.now) (g.D.Disk.taken_count c.write_at.new.self) c.in_ok-len.len c.in_ok-len.ensures.value (omega (arith, c.len.ensures.taken, c.cell_of.ensures.bound, c.number_at.ensures.taken, c.write_at.ensures.taken))

@@ -13,12 +13,12 @@ pub returns-in-Some-recall-clause-value : goal.returns-in-Some-recall-clause-val
 returns-in-Some-recall-clause-value g c = λ groups.
     let none : find c.args.key.now c.args.marks.now ≡ None = sym c.get.ensures ∙ ap option_copied c.in-None.is in
     let was = is_some (find c.args.key.now (replay Hash groups [])) in
-    if_some (g.D.Disk.image c.args.disk.now) _ _ (key_in (g.D.Disk.image c.args.disk.now) c.args.head.now c.args.found.now groups c.requires.found) (λ f known file.
-    subst (λ (o : Option Bool). IfSome o (λ there. there ≡ was)) c.in-Some-recall.is (c.recall.ensures (replay Hash groups []) (known file))
+    if_some (g.D.Disk.image c.args.disk.now) _ _ (key_in (g.D.Disk.image c.args.disk.now) c.args.file.now.head c.args.found.now groups c.requires.found) (λ f known file.
+    subst (λ (o : Option Bool). IfSome o (λ there. there ≡ was)) c.in-Some-recall.is (c.recall.ensures.right (replay Hash groups []) (known file))
     ∙ sym (ap (λ (o : Option (List ℕ)). told_there o was) none))
 
 pub returns-in-None-recall-clause-value : goal.returns-in-None-recall-clause-value
 returns-in-None-recall-clause-value g c = λ groups.
     let none : find c.args.key.now c.args.marks.now ≡ None = sym c.get.ensures ∙ ap option_copied c.in-None.is in
-    subst (λ (o : Option (List ℕ)). IfSome (g.D.Disk.image c.args.disk.now) (λ f. IsFile c.args.head.now f groups
+    subst (λ (o : Option (List ℕ)). IfSome (g.D.Disk.image c.args.disk.now) (λ f. IsFile c.args.file.now.head f groups
     → IfOk c.has_key.result (λ there. there ≡ told_there o (is_some (find c.args.key.now (replay Hash groups [])))))) (sym none) (c.has_key.ensures.value groups)

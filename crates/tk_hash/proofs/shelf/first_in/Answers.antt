@@ -5,4 +5,4 @@ use Rattle.tk_hash.proofs.shelf.first_in.Goals as goal
 
 pub returns-clause-value : goal.returns-clause-value
 returns-clause-value g c = λ groups.
-    found_on (first_within Hash c.args.bound.now) (g.D.Disk.image c.args.disk.now) c.args.head.now groups c.args.bucket c.args.shelf.now c.lay.new.shelf c.in_ok-first_on.field-0 c.in_ok-first_on.ensures (c.in_ok-lay.ensures.value groups)
+    found_on (first_within Hash c.args.bound.now) (g.D.Disk.image c.args.disk.now) c.args.file.now.head groups c.args.bucket c.args.shelf.now c.lay.new.shelf c.in_ok-first_on.field-0 c.in_ok-first_on.ensures (c.in_ok-lay.ensures.value groups)

@@ -6,9 +6,9 @@ use Rattle.tk_hash.proofs.shelf.last_record.Given as goal
 
 abbrev pub invariant-loop-end : goal.invariant-loop-end
 invariant-loop-end g l = record {
-  down : (groups : List Group) → ToldDown (g.D.Disk.image l.initial.disk) l.head groups l.initial.shelf l.bound l.end;
-  shelf : (groups : List Group) → ShelfKept (g.D.Disk.image l.initial.disk) l.head groups l.initial.shelf l.shelf;
-  most : l.end ≤ 2 ^ l.head.p;
+  down : (groups : List Group) → ToldDown (g.D.Disk.image l.initial.disk) l.file.head groups l.initial.shelf l.bound l.end;
+  shelf : (groups : List Group) → ShelfKept (g.D.Disk.image l.initial.disk) l.file.head groups l.initial.shelf l.shelf;
+  most : l.end ≤ 2 ^ l.file.head.p;
   image : g.D.Disk.image l.disk ≡ g.D.Disk.image l.initial.disk;
   still : OnlyReads g.D.Disk.may_leave g.D.Disk.moment g.D.Disk.left_since g.D.Disk.past g.D.Disk.left_with l.initial.disk l.disk;
   taken : g.D.Disk.taken_count l.initial.disk ≤ g.D.Disk.taken_count l.disk;

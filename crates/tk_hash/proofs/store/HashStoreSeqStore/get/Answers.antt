@@ -3,11 +3,11 @@ use Rattle.tk_model.specs.Records.{find, replay}
 use Rattle.tk_model.specs.declared.record.Order.TheVariants.{Hash}
 use Rattle.tk_store.specs.Store.{Gives}
 use Rattle.tk_hash.specs.Chain.{cost_in}
-use Rattle.tk_hash.proofs.HashKeeps.{same_read, told_by, key_given, still_at, read_on, stood_on, shelf_same, heads_at, length-lent}
+use Rattle.tk_hash.proofs.HashKeeps.{same_read, told_by, key_given, still_at, read_on, stood_on, shelf_same, file_at, length-lent}
 use Rattle.tk_hash.proofs.store.HashStoreSeqStore.get.Goals as goal
 
-pub get_value-requires-clause-heads : goal.get_value-requires-clause-heads
-get_value-requires-clause-heads g c = heads_at g.D.Disk.image g.D.Disk.may_leave g.D.Disk.past c.args.self.now c.disk.result.now c.head.result.now c.deref.result.now c.requires.whole c.disk.ensures.value c.head.ensures c.deref.ensures.value
+pub get_value-requires-clause-file : goal.get_value-requires-clause-file
+get_value-requires-clause-file g c = file_at g.D.Disk.image g.D.Disk.may_leave g.D.Disk.past c.args.self.now c.disk.result.now _ c.requires.whole c.disk.ensures.value c.head.ensures c.deref.ensures.value c.end.ensures
 
 pub returns-in_err-present-clause-cost : goal.returns-in_err-present-clause-cost
 returns-in_err-present-clause-cost g c =
@@ -51,11 +51,11 @@ returns-clause-looks g c =
       same_shown = search rules;
       keeps = λ first since hard st.
           read_on g.D.Disk.image g.D.Disk.may_leave g.D.Disk.past g.D.Disk.moment g.D.Disk.left_since g.D.Disk.left_with c.args.self.now _ first since hard
-          (same_read g.D.Disk.image c.args.self.now _ c.disk.result.now c.disk.ensures.value (λ unclosed. unclosed) refl refl refl refl refl refl refl refl (λ _. key_given g.D.Disk.image g.D.Disk.may_leave g.D.Disk.past c.args.self.now c.disk.result.now c.head.result.now c.args.key.now c.args.out.now c.get_value.new.out c.in_ok-present.present c.remember.new.self c.requires.whole c.disk.ensures.value c.head.ensures c.in_ok-present.ensures.value c.remember.ensures) (length-lent c.args.self.now.buffer c.get_value.new.buffer) c.get_value.ensures.image)
+          (same_read g.D.Disk.image c.args.self.now _ c.disk.result.now c.disk.ensures.value (λ unclosed. unclosed) refl refl refl refl refl refl refl refl (λ _. key_given g.D.Disk.image g.D.Disk.may_leave g.D.Disk.past c.args.self.now c.disk.result.now c.head.result.now c.args.key.now c.args.out.now c.get_value.new.out c.in_ok-present.present c.remember.new.self c.requires.whole c.disk.ensures.value c.head.ensures c.in_ok-present.ensures.value c.remember.ensures.right) (length-lent c.args.self.now.buffer c.get_value.new.buffer) c.get_value.ensures.image)
           (shelf_same g.D.Disk.image c.args.self.now) still st;
       keeps_since = λ t n first since hard st.
           stood_on g.D.Disk.image g.D.Disk.may_leave g.D.Disk.past g.D.Disk.moment g.D.Disk.left_since g.D.Disk.left_with g.met.D.Disk.since_with c.args.self.now _ t n first since hard
-          (same_read g.D.Disk.image c.args.self.now _ c.disk.result.now c.disk.ensures.value (λ unclosed. unclosed) refl refl refl refl refl refl refl refl (λ _. key_given g.D.Disk.image g.D.Disk.may_leave g.D.Disk.past c.args.self.now c.disk.result.now c.head.result.now c.args.key.now c.args.out.now c.get_value.new.out c.in_ok-present.present c.remember.new.self c.requires.whole c.disk.ensures.value c.head.ensures c.in_ok-present.ensures.value c.remember.ensures) (length-lent c.args.self.now.buffer c.get_value.new.buffer) c.get_value.ensures.image)
+          (same_read g.D.Disk.image c.args.self.now _ c.disk.result.now c.disk.ensures.value (λ unclosed. unclosed) refl refl refl refl refl refl refl refl (λ _. key_given g.D.Disk.image g.D.Disk.may_leave g.D.Disk.past c.args.self.now c.disk.result.now c.head.result.now c.args.key.now c.args.out.now c.get_value.new.out c.in_ok-present.present c.remember.new.self c.requires.whole c.disk.ensures.value c.head.ensures c.in_ok-present.ensures.value c.remember.ensures.right) (length-lent c.args.self.now.buffer c.get_value.new.buffer) c.get_value.ensures.image)
           (shelf_same g.D.Disk.image c.args.self.now) still st;
       writes_nothing = record { same = search rules; still = still };
       later = search rules;

@@ -4,11 +4,11 @@ use Rattle.tk_model.specs.Records.{find, replay}
 use Rattle.tk_model.specs.declared.record.Order.TheVariants.{Hash}
 use Rattle.tk_store.specs.Store.{GivesInto}
 use Rattle.tk_hash.specs.Chain.{cost_in}
-use Rattle.tk_hash.proofs.HashKeeps.{same_read, told_by, still_at, read_on, stood_on, shelf_same, heads_at, length-lent}
+use Rattle.tk_hash.proofs.HashKeeps.{same_read, told_by, still_at, read_on, stood_on, shelf_same, file_at, length-lent}
 use Rattle.tk_hash.proofs.store.HashStoreSeqStore.get_into.Goals as goal
 
-pub get_value_into-requires-clause-heads : goal.get_value_into-requires-clause-heads
-get_value_into-requires-clause-heads g c = heads_at g.D.Disk.image g.D.Disk.may_leave g.D.Disk.past c.args.self.now c.disk.result.now c.head.result.now c.deref.result.now c.requires.whole c.disk.ensures.value c.head.ensures c.deref.ensures.value
+pub get_value_into-requires-clause-file : goal.get_value_into-requires-clause-file
+get_value_into-requires-clause-file g c = file_at g.D.Disk.image g.D.Disk.may_leave g.D.Disk.past c.args.self.now c.disk.result.now _ c.requires.whole c.disk.ensures.value c.head.ensures c.deref.ensures.value c.end.ensures
 
 pub returns-clause-value : goal.returns-clause-value
 returns-clause-value g c =

@@ -2,8 +2,11 @@ use Rattle.std.proofs.Common.{rules, ◌≡◌, [], refl}
 use Rattle.std.specs.Prelude.{IfOk}
 use Rattle.tk_model.specs.Records.{first_within, replay}
 use Rattle.tk_model.specs.declared.record.Order.TheVariants.{Hash}
-use Rattle.tk_hash.proofs.HashKeeps.{same_read, told_with, shelf_at, still_at, read_on, stood_on}
+use Rattle.tk_hash.proofs.HashKeeps.{same_read, file_at, told_with, shelf_at, still_at, read_on, stood_on}
 use Rattle.tk_hash.proofs.store.HashStoreSeqStore.next.Goals as goal
+
+pub first_record-requires-clause-file : goal.first_record-requires-clause-file
+first_record-requires-clause-file g c = file_at g.D.Disk.image g.D.Disk.may_leave g.D.Disk.past c.args.self.now c.disk.result.now _ c.requires.whole c.disk.ensures.value c.head.ensures c.deref.ensures.value c.end.ensures
 
 pub returns-clause-value : goal.returns-clause-value
 returns-clause-value g c =
