@@ -1,5 +1,5 @@
 -- The two halves of a restoring, and the whole.
-use Rattle.std.proofs.Common.{◌≡◌, ℕ, List, [], inl, inr, refl, sym, ◌∙◌, ap, subst}
+use Rattle.std.proofs.Common.{◌≡◌, ℕ, List, [], inl, inr, refl, sym, ◌∙◌, ap, subst, arith}
 use Rattle.std.specs.Prelude.{length, Option, Some, None, IfSome, IfErr, IsSomeAnd, Result, Ok, Err}
 use Rattle.std.specs.Io.{StartsWith}
 use Rattle.tk_disk.specs.Past.{Past}
@@ -14,6 +14,7 @@ use Rattle.tk_block.specs.declared.head.StaticHead.{StaticHead}
 use Rattle.tk_append.specs.Fresh.{IsFreshMoment, fresh_groups, fresh_text}
 use Rattle.tk_append.specs.Read.{IsOutside, TellsResult}
 use Rattle.tk_append.specs.Restored.{groups_in}
+use Rattle.tk_append.specs.Untorn.{IsKnownHeader}
 use Rattle.tk_restore.specs.declared.restore.Restoration.{Restoration}
 use Rattle.tk_restore.specs.Reading.{IsReadFrom}
 use Rattle.tk_restore.specs.Restoration.{IsAppending, IsRestoredFrom, IsRestoringMoment, OnRefusal, restored_head, restored_file}
@@ -50,6 +51,18 @@ moments_from moment left_with old new before image r (Some f) read only = record
   later = only.later;
   each = λ x l. moment_from image r before read x (only.each x l);
   before = λ t x le l. elim (only.before t x le l) [ inl was ↦ inl was | inr fresh ↦ inr (moment_from image r before read x fresh) ];
+}
+
+-- a disk that no call wrote to
+pub unwritten : {D : Type 0} (past : D → Past) (moment : D → ℕ) (may_leave : D → List ℕ → Type 0) (left_with : D → ℕ → Past × List ℕ → Type 0)
+    → ((disk : D) (x : Past × List ℕ) → left_with disk (moment disk) x → (x.0 ≡ past disk) × may_leave disk x.1)
+    → (d : D) (from to : Option (List ℕ)) → IfSome from (λ image. IfSome to (λ _. LeavesOnly moment left_with d d (IsRestoringMoment image (past d))))
+unwritten past moment may_leave left_with only d None to = tt
+unwritten past moment may_leave left_with only d (Some image) None = tt
+unwritten past moment may_leave left_with only d (Some image) (Some f) = record {
+  later = omega arith;
+  each = λ x l k there known. inl (subst (λ (p : Past). IsKnownHeader p k) (only d x l).0 known);
+  before = λ t x le l. inl l;
 }
 
 -- a fault or want of memory says nothing of the image

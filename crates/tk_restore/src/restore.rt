@@ -11,7 +11,7 @@ ghost use Rattle.tk_restore.specs.Restoration.{IsAppending, IsRestoredFrom, IsRe
 
 use crate::scan::{read_header, read_records};
 use std::alloc::Global;
-use tk_append::write_fresh;
+use tk_append::write_or_empty;
 use tk_block::{StaticHead, base_of, extent_of};
 use tk_disk::{Disk, DiskError};
 use tk_model::{OpenError, Pair, PairList};
@@ -50,22 +50,19 @@ fn write_file<D: Disk>(
         (IfSome (D.image disk.old) (λ _.
         D.image disk.new ≡ Some (fresh_text head.now 0 pairs.now))) }
     ensures durable { OnOk result (IfSome (D.image disk.new) (λ f. Only f (D.may_leave disk.new))) }
-    ensures pasts { OnOk result (IfSome (D.image disk.old) (λ _.
+    ensures pasts { IfSome (D.image disk.old) (λ _.
         LeavesOnly D.moment D.left_with disk.old disk.new
         (IsFreshMoment head.now (fresh_groups head.now.kind 0 pairs.now)
-        (fresh_text head.now 0 pairs.now) (D.past disk.old)))) }
+        (fresh_text head.now 0 pairs.now) (D.past disk.old))) }
     ensures no_memory { result ≡ Err errors.NoMemory → D.image disk.new ≡ D.image disk.old }
     ensures outside { IfErr result IsOutside }
     ensures told { is_some (D.image disk.new) ≡ is_some (D.image disk.old) }
     ensures cause { HasOpenCause (D.fault_count disk.old) (D.fault_count disk.new) result }
 {
-    match write_fresh(alloc, disk, head, 0, pairs) {
+    match write_or_empty(alloc, disk, head, 0, pairs) {
         Ok(()) => Ok(()),
         Err(DiskError::Fault) => Err(OpenError::Fault),
-        Err(DiskError::NoMemory) => match disk.cut(0) {
-            Ok(()) => Err(OpenError::NoMemory),
-            Err(_) => Err(OpenError::Fault),
-        },
+        Err(DiskError::NoMemory) => Err(OpenError::NoMemory),
     }
 }
 
@@ -120,8 +117,8 @@ pub fn write_restoration<D: Disk>(
     ensures durable { OnOk result (IfSome (D.image to.new) (λ f. Only f (D.may_leave to.new))) }
     // what a crash leaves while it is written
     ensures pasts { (image : List ℕ) → IsReadFrom image restoration.now
-        → OnOk result (IfSome (D.image to.old) (λ _.
-        LeavesOnly D.moment D.left_with to.old to.new (IsRestoringMoment image (D.past to.old)))) }
+        → IfSome (D.image to.old) (λ _.
+        LeavesOnly D.moment D.left_with to.old to.new (IsRestoringMoment image (D.past to.old))) }
     // the disk
     ensures no_memory { result ≡ Err errors.NoMemory → D.image to.new ≡ D.image to.old }
     ensures outside { IfErr result IsOutside }
@@ -142,9 +139,9 @@ pub fn restore_appending<D: Disk>(alloc: Global, from: &mut D, to: &mut D) -> Re
         IfOk result (λ n. IsSomeAnd (D.image to.new) (λ file. IsRestoredFrom image file n)))) }
     ensures durable { OnOk result (IfSome (D.image to.new) (λ f. Only f (D.may_leave to.new))) }
     // what a crash leaves while it is written
-    ensures pasts { IfSome (D.image from.old) (λ image. OnOk result (IfSome (D.image to.old) (λ _.
+    ensures pasts { IfSome (D.image from.old) (λ image. IfSome (D.image to.old) (λ _.
         LeavesOnly D.moment D.left_with to.old to.new
-        (IsRestoringMoment image (D.past to.old))))) }
+        (IsRestoringMoment image (D.past to.old)))) }
     // what is refused
     ensures exact { IfSome (D.image from.old) (λ image. TellsResult result (refusal image)) }
     ensures untouched { IfErr result (λ e. OnRefusal e (to.new ≡ to.old)) }

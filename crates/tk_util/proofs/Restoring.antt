@@ -1,18 +1,20 @@
 -- What the steps of `restore` do.
-use Rattle.std.proofs.Common.{◌≡◌, ◌≢◌, ◌⊎◌, ◌==◌, ◌≤◌, ◌^◌, ℕ, Bool, true, false, List, [], ◌∷◌, length, refl, sym, ◌∙◌, ap, subst, inl, inr, arith, if◌then◌else◌}
+use Rattle.std.proofs.Common.{◌≡◌, ◌≢◌, ◌⊎◌, ◌==◌, ◌≤◌, ◌^◌, ℕ, Bool, true, false, true≢false, List, [], ◌∷◌, length, refl, sym, ◌∙◌, ap, subst, inl, inr, arith, if◌then◌else◌}
 use Rattle.std.specs.Prelude.{nat_lt, Option, Some, None, IsSome, IfSome, IfOk, IfErr, IsSomeAnd, Result, Ok, Err}
 use Rattle.std.proofs.lemmas.Bool.{eq-eqb, ne_eqb}
 use Rattle.std.proofs.lemmas.Bool.Decides.{nat_tests, eqb_tells}
 use Rattle.tk_model.specs.declared.error.OpenError.{OpenError}
 use Rattle.tk_model.specs.declared.error.OpenError.TheVariants as errors
 use Rattle.tk_block.specs.Text.{static_at, is_static}
+use Rattle.tk_block.proofs.Grammar.{statics}
 use Rattle.tk_block.specs.declared.head.StaticHead.{StaticHead}
 use Rattle.tk_append.specs.Log.{TellsCause}
 use Rattle.tk_disk.specs.Folder.{or_empty, SameBut}
 use Rattle.tk_disk.specs.declared.disk.DiskError.{DiskError}
 use Rattle.tk_restore.specs.Reading.{IsReadFrom}
-use Rattle.tk_restore.specs.Restoration.{IsRestoredFrom, IsAppending, restored_size, refusal, refused_by}
+use Rattle.tk_restore.specs.Restoration.{IsRestoredFrom, IsAppending, IsWhole, restored_file, restored_records, restored_size, refusal, refused_by}
 use Rattle.tk_restore.specs.declared.restore.Restoration.{Restoration}
+use Rattle.tk_restore.proofs.Whole.{restored_open, file_length}
 use Rattle.tk_status.specs.declared.finish.Finish.{Finish}
 use Rattle.tk_status.specs.Finish.{ended, refused_at, exists_at, answered}
 use Rattle.tk_util.specs.Calls.{StopTells}
@@ -97,6 +99,29 @@ image_unread None p found h e stop same some other is tells told = tt
 image_unread (Some f) p found h e stop same some other is tells told =
     too_long f h (sym is ∙ some) other (nat_lt (2 ^ 40) (restored_size h f)) e stop refl
     (subst (λ (x : Option OpenError). TellsCause e x) (refused_as f h (sym is ∙ some) other) (subst (λ (x : Option (List ℕ)). IfSome x (λ f. TellsCause e (refusal f))) same tells)) told
+
+-- ---- the new file of a file that can be restored is whole
+
+neither : (b c : Bool) → (if b then Some 8 else (if c then Some 10 else None)) ≡ None → (b ≡ false) × (c ≡ false)
+neither true c none = absurd (cc none)
+neither false true none = absurd (cc none)
+neither false false none = (refl, refl)
+
+no_fault : (f : List ℕ) (h : StaticHead) → static_at f ≡ Some h → restore_fault f ≡ None → ((h.kind == 2) ≡ false) × (nat_lt (2 ^ 40) (restored_size h f) ≡ false)
+unfolding restore_fault
+no_fault f h static none = neither (h.kind == 2) (nat_lt (2 ^ 40) (restored_size h f)) (ap (restore_fault_by f) (sym static) ∙ none)
+
+short_enough : (n : ℕ) → nat_lt (2 ^ 40) n ≡ false → n ≤ 2 ^ 40
+short_enough n is = grind (arith, nat_tests)
+
+is_whole : (image : List ℕ) (after : Option (List ℕ)) → restore_fault image ≡ None → IsRestored image after → IsWhole image (or_empty after)
+is_whole image after sound r =
+    let none = no_fault image r.head r.was sound in
+    let other : r.head.kind ≢ 2 = λ two. true≢false (sym (eq-eqb r.head.kind 2 two) ∙ none.0) in
+    let appending : IsAppending image = subst (λ (s : Option StaticHead). IfSome s (λ h. (h.kind ≡ 1) ⊎ (h.kind ≡ 3))) (sym r.was) (kinds_left r.head (statics.found image r.head r.was).0.0 other) in
+    subst (λ (o : Option (List ℕ)). IsWhole image (or_empty o)) (sym r.is)
+    (restored_open image (restored_file r.head image) (length (restored_records image)) appending (omega (arith, file_length r.head image, short_enough (restored_size r.head image) none.1))
+    (record { head = r.head; was = r.was; is = refl; counted = refl }))
 
 -- ---- a folder of which a file was read
 
@@ -297,9 +322,10 @@ clear_write c finish (inr (inr (inr is))) four = inr (inr (inr (ap (λ (x : Fini
 
 module _ (c : RestoreWords) (before after : World) (only : OnlyFile c.to before after) where
   -- the new file was written, or there was one
-  restored_ran : (finish : Finish) → restore_fault (or_empty (before.files c.from)) ≡ None → WroteNew (or_empty (before.files c.from)) (before.files c.to) (after.files c.to) finish → IsWriteEnd finish → RanRestore c before after finish
+  pub restored_ran : (finish : Finish) → restore_fault (or_empty (before.files c.from)) ≡ None → WroteNew (or_empty (before.files c.from)) (before.files c.to) (after.files c.to) finish → IsWriteEnd finish → RanRestore c before after finish
   restored_ran finish sound wrote ends = record {
     done = wrote.done;
+    valid = λ e. is_whole (or_empty (before.files c.from)) (after.files c.to) sound (wrote.done e);
     refused = λ e. absurd (not_by finish 3 ends (λ h. cc h) (λ h. cc h) (λ h. cc h) (λ h. cc h) e);
     exists = λ e. (there_end finish ends e, wrote.exists e);
     sound = λ either. sound;
@@ -322,6 +348,7 @@ module _ (c : RestoreWords) (before after : World) (only : OnlyFile c.to before 
     inr (inr (inl refl)),
     record {
       done = λ e. absurd (cc e);
+      valid = λ e. absurd (cc e);
       refused = λ e. absurd (cc e);
       exists = λ e. absurd (cc e);
       sound = λ either. absurd (elim either [ inl e ↦ cc e | inr e ↦ cc e ]);

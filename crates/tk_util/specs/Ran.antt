@@ -15,7 +15,7 @@ use Rattle.tk_disk.specs.Folder.{or_empty, SameBut}
 use Rattle.tk_block.specs.declared.head.StaticHead.{StaticHead}
 use Rattle.tk_block.specs.Layout.{file_text}
 use Rattle.tk_block.specs.Text.{static_at}
-use Rattle.tk_restore.specs.Restoration.{restored_file, restored_size}
+use Rattle.tk_restore.specs.Restoration.{IsWhole, restored_file, restored_size}
 use Rattle.tk_util.specs.Calls.{HoldsDatabase, exceeds_limit, called_file, RefusedAt}
 use Rattle.tk_disk.specs.Disk.{Rose}
 use Rattle.tk_util.specs.Words.{Command, Get, Set, Remove, Restore, KeyWords, SetWords, RestoreWords}
@@ -117,6 +117,7 @@ pub record IsRestored (image : List ℕ) (file : Option (List ℕ)) : Type 0 whe
 -- `restore`: the records that a crash left of one file are written as a new one, where none has bytes
 pub record RanRestore (c : RestoreWords) (before after : World) (finish : Finish) : Type 0 where
   pub done : finish.status ≡ 0 → IsRestored (or_empty (before.files c.from)) (after.files c.to)
+  pub valid : finish.status ≡ 0 → IsWhole (or_empty (before.files c.from)) (or_empty (after.files c.to))
   pub refused : finish.status ≡ 3 → (finish ≡ refused_at 0 finish.place) × (restore_fault (or_empty (before.files c.from)) ≡ Some finish.place)
   pub exists : finish.status ≡ 7 → (finish ≡ exists_at 1) × (or_empty (before.files c.to) ≢ [])
   -- the file that is restored is judged first, then the new one

@@ -11,7 +11,7 @@ ghost use Rattle.tk_util.specs.Ran.{reply_changes, set_text};
 use crate::call::{Called, Stop, run_call};
 use crate::end::with_status;
 use std::alloc::Global;
-use tk_append::write_fresh;
+use tk_append::write_or_empty;
 use tk_block::StaticHead;
 use tk_disk::{Disk, DiskError};
 use tk_model::{Bytes, NoMemory, Pair, PairList};
@@ -69,14 +69,8 @@ fn set_fresh<D: Disk>(
         return Ok(false);
     }
     let pairs = one_record(alloc, key, value)?;
-    match write_fresh(alloc, disk, &NEW_HEAD, 0, &pairs) {
-        Ok(()) => Ok(true),
-        Err(DiskError::NoMemory) => {
-            disk.cut(0)?;
-            Err(DiskError::NoMemory)
-        }
-        Err(DiskError::Fault) => Err(DiskError::Fault),
-    }
+    write_or_empty(alloc, disk, &NEW_HEAD, 0, &pairs)?;
+    Ok(true)
 }
 
 /// One call that sets a key in a file that has bytes.

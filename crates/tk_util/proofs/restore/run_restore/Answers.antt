@@ -1,7 +1,9 @@
-use Rattle.std.proofs.Common.{ℕ, refl, ◌∙◌, subst, inr}
+use Rattle.std.proofs.Common.{ℕ, List, refl, ◌∙◌, subst, inr}
+use Rattle.std.specs.Prelude.{Option}
 use Rattle.tk_disk.specs.Disk.{Rose}
+use Rattle.tk_util.specs.Restoring.{WroteNew}
 use Rattle.tk_util.proofs.OnFolder.{leaves_after}
-use Rattle.tk_util.proofs.Restoring.{restored_settled, unread_settled, only_to, settled_at}
+use Rattle.tk_util.proofs.Restoring.{restored_ran, restored_settled, unread_settled, only_to, settled_at}
 use Rattle.tk_util.proofs.restore.run_restore.Goals as goal
 
 pub returns-in-Err-clause-ends_clearly : goal.returns-in-Err-clause-ends_clearly
@@ -18,3 +20,10 @@ returns-in-Ok-clause-ends_clearly g c = λ left held tells.
 pub returns-in-Ok-clause-crash : goal.returns-in-Ok-clause-crash
 returns-in-Ok-clause-crash g c =
     leaves_after _ (g.F.Folder.tells c.read_from.new.folder) _ _ (g.F.Folder.file c.read_from.new.folder c.args.restore.to.now) _ _ (g.F.Folder.leaves c.read_from.new.folder) _ _ c.read_from.ensures.tells (λ tells. c.read_from.ensures.files tells _) c.read_from.ensures.crash c.write_to.ensures.crash
+
+pub returns-in-Ok-clause-ran : goal.returns-in-Ok-clause-ran
+returns-in-Ok-clause-ran g c = λ left held tells.
+    restored_ran _ _ _ (record { others = only_to _ (g.F.Folder.file c.read_from.new.folder) _ _ (c.read_from.ensures.files tells) c.write_to.ensures.others; left = refl; held = refl })
+    c.write_to.result (c.in-Ok.ensures.read tells).1
+    (subst (λ (o : Option (List ℕ)). WroteNew _ o _ c.write_to.result) (c.read_from.ensures.files tells _) (c.write_to.ensures.wrote (c.read_from.ensures.tells ∙ tells) _ (c.in-Ok.ensures.read tells).0))
+    c.write_to.ensures.ends
