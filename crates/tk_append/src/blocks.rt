@@ -23,9 +23,11 @@ pub(crate) fn put_words<D: Disk>(
     requires behind { 0 < at.old }
     requires here { IfSome (D.image disk.old) (λ f. length f ≡ at.old) }
     requires end { at.old + length waiting.old + 8 * length words.now ≤ 2 ^ 40 }
-    ensures text { (text : List ℕ) → Holds (D.image disk.old) at.old waiting.old text → OnOk result (Holds (D.image disk.new) at.new waiting.new (text ++ words_text words.now)) }
+    ensures text { (text : List ℕ) → Holds (D.image disk.old) at.old waiting.old text
+        → OnOk result (Holds (D.image disk.new) at.new waiting.new (text ++ words_text words.now)) }
     ensures here { OnOk result (IfSome (D.image disk.new) (λ f. length f ≡ at.new)) }
-    ensures end { OnOk result (at.new + length waiting.new ≡ at.old + length waiting.old + 8 * length words.now) }
+    ensures end { OnOk result (at.new + length waiting.new ≡ at.old + length waiting.old + 8
+        * length words.now) }
     ensures front { OnOk result (at.old ≤ at.new) }
     ensures told { is_some (D.image disk.new) ≡ is_some (D.image disk.old) }
     ensures cause { HasFaultCause (D.fault_count disk.old) (D.fault_count disk.new) result }
@@ -51,11 +53,15 @@ fn put_record<D: Disk>(
     requires behind { 0 < at.old }
     requires here { IfSome (D.image disk.old) (λ f. length f ≡ at.old) }
     requires small { IsSmall pair.now.key pair.now.value }
-    requires end { at.old + length waiting.old + extent_of (body_of number (Change.Put pair.now) last) ≤ 2 ^ 40 }
+    requires end { at.old + length waiting.old + extent_of (body_of number (Change.Put pair.now)
+        last) ≤ 2 ^ 40 }
     ensures text { (text : List ℕ) → Holds (D.image disk.old) at.old waiting.old text
-        → OnOk result (Holds (D.image disk.new) at.new waiting.new (text ++ block_text (body_of number (Change.Put pair.now) last) (at.old + length waiting.old) link)) }
+        → OnOk result (Holds (D.image disk.new) at.new waiting.new
+        (text ++ block_text (body_of number (Change.Put pair.now) last)
+        (at.old + length waiting.old) link)) }
     ensures here { OnOk result (IfSome (D.image disk.new) (λ f. length f ≡ at.new)) }
-    ensures end { OnOk result (at.new + length waiting.new ≡ at.old + length waiting.old + extent_of (body_of number (Change.Put pair.now) last)) }
+    ensures end { OnOk result (at.new + length waiting.new ≡ at.old + length waiting.old + extent_of
+        (body_of number (Change.Put pair.now) last)) }
     ensures front { OnOk result (at.old ≤ at.new) }
     ensures told { is_some (D.image disk.new) ≡ is_some (D.image disk.old) }
     ensures cause { HasFaultCause (D.fault_count disk.old) (D.fault_count disk.new) result }
@@ -96,11 +102,15 @@ pub(crate) fn put_records<D: Disk>(
     requires here { IfSome (D.image disk.old) (λ f. length f ≡ at.old) }
     requires small { AllPairsSmall pairs.now }
     requires links { length links.now ≡ length pairs.now }
-    requires end { end_of (at.old + length waiting.old) (fresh_bodies number each pairs.now) ≤ 2 ^ 40 }
+    requires end { end_of (at.old + length waiting.old) (fresh_bodies number each pairs.now)
+        ≤ 2 ^ 40 }
     ensures text { (text : List ℕ) → Holds (D.image disk.old) at.old waiting.old text
-        → OnOk result (Holds (D.image disk.new) at.new waiting.new (text ++ texts (laid (at.old + length waiting.old) (fresh_bodies number each pairs.now)) links.now)) }
+        → OnOk result (Holds (D.image disk.new) at.new waiting.new
+        (text ++ texts (laid (at.old + length waiting.old) (fresh_bodies number each pairs.now))
+        links.now)) }
     ensures here { OnOk result (IfSome (D.image disk.new) (λ f. length f ≡ at.new)) }
-    ensures end { OnOk result (at.new + length waiting.new ≡ end_of (at.old + length waiting.old) (fresh_bodies number each pairs.now)) }
+    ensures end { OnOk result (at.new + length waiting.new ≡ end_of (at.old + length waiting.old)
+        (fresh_bodies number each pairs.now)) }
     ensures front { OnOk result (at.old ≤ at.new) }
     ensures told { is_some (D.image disk.new) ≡ is_some (D.image disk.old) }
     ensures cause { HasFaultCause (D.fault_count disk.old) (D.fault_count disk.new) result }

@@ -19,9 +19,12 @@ pub(crate) struct Chains {
 pub(crate) fn chains_of(alloc: Global, p: u8, pairs: &[Pair]) -> Result<Chains, NoMemory>
     requires p { p ≤ 24 }
     requires small { AllPairsSmall pairs.now }
-    requires end { (number : ℕ) (each : Bool) → end_of (base_of p) (fresh_bodies number each pairs.now) ≤ 2 ^ 40 }
-    ensures heads { IfOk result (λ c. (number : ℕ) (each : Bool) → HeadsAre p c.heads.items (laid (base_of p) (fresh_bodies number each pairs.now))) }
-    ensures links { IfOk result (λ c. (number : ℕ) (each : Bool) → c.links.items ≡ links_of p [] (laid (base_of p) (fresh_bodies number each pairs.now))) }
+    requires end { (number : ℕ) (each : Bool)
+        → end_of (base_of p) (fresh_bodies number each pairs.now) ≤ 2 ^ 40 }
+    ensures heads { IfOk result (λ c. (number : ℕ) (each : Bool) → HeadsAre p c.heads.items
+        (laid (base_of p) (fresh_bodies number each pairs.now))) }
+    ensures links { IfOk result (λ c. (number : ℕ) (each : Bool) → c.links.items ≡ links_of p []
+        (laid (base_of p) (fresh_bodies number each pairs.now))) }
 {
     let mut heads = Vec::new(alloc);
     heads.resize(1 << p, 0)?;

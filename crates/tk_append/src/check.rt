@@ -43,7 +43,8 @@ pub fn length_of<D: Disk>(disk: &mut D) -> Result<u64, OpenError>
     ensures outside { IfErr result IsOutside }
     ensures unmet { IsErrOf result OpenError.NoMemory → ⊥ }
     ensures cause { HasOpenCause (D.fault_count disk.old) (D.fault_count disk.new) result }
-    ensures still { OnlyReads D.may_leave D.moment D.left_since D.past D.left_with disk.old disk.new }
+    ensures still { OnlyReads D.may_leave D.moment D.left_since D.past D.left_with disk.old
+        disk.new }
 {
     match disk.len() {
         Ok(len) => Ok(len),
@@ -63,7 +64,8 @@ fn head_in(front: &[u8], kinds: &[u8]) -> Result<StaticHead, OpenError>
     requires long { length front.now ≡ 64 }
     ensures found { (f : List ℕ) → StartsWith f front.now → IfOk result (HeadIn kinds.now f) }
     ensures p { IfOk result (λ h. h.p ≤ 24) }
-    ensures fails { (writable : Bool) (shard : Shard) (f : List ℕ) → StartsWith f front.now → IfErr result (λ e. FindsCause e (first_fault kinds.now writable shard f)) }
+    ensures fails { (writable : Bool) (shard : Shard) (f : List ℕ) → StartsWith f front.now
+        → IfErr result (λ e. FindsCause e (first_fault kinds.now writable shard f)) }
     ensures no_fault { IsErrOf result OpenError.Fault → ⊥ }
     ensures small { (i : ℕ) → slice_index front.now i < 256 }
 {
@@ -80,9 +82,12 @@ fn head_in(front: &[u8], kinds: &[u8]) -> Result<StaticHead, OpenError>
 fn closing_in(front: &[u8], size: u64, p: u8) -> Result<Closing, OpenError>
     requires p { p ≤ 24 }
     requires long { length front.now ≡ 64 }
-    ensures found { (f : List ℕ) → StartsWith f front.now → length f ≡ size → IfOk result (ClosingIn p f) }
-    ensures fails { (writable : Bool) (h : Head) (shard : Shard) (f : List ℕ) → StartsWith f front.now → length f ≡ size → h.p ≡ p
-        → IfErr result (λ e. FindsCause e (closing_fault writable h shard f (closing_at (drop 32 f)))) }
+    ensures found { (f : List ℕ) → StartsWith f front.now → length f ≡ size
+        → IfOk result (ClosingIn p f) }
+    ensures fails { (writable : Bool) (h : Head) (shard : Shard) (f : List ℕ)
+        → StartsWith f front.now → length f ≡ size → h.p ≡ p
+        → IfErr result
+        (λ e. FindsCause e (closing_fault writable h shard f (closing_at (drop 32 f)))) }
     ensures no_fault { IsErrOf result OpenError.Fault → ⊥ }
     ensures size { IfOk result (λ c. c.size ≡ size) }
     ensures base { IfOk result (λ c. base_of p ≤ c.size) }
@@ -99,10 +104,12 @@ fn closing_in(front: &[u8], size: u64, p: u8) -> Result<Closing, OpenError>
 /// The header and the closing part of the disk's file.
 fn read_front<D: Disk>(disk: &mut D, kinds: &[u8]) -> Result<Found, OpenError>
     ensures front { IfOk result (IsFront (D.image disk.old) kinds.now) }
-    ensures fails { IfSome (D.image disk.old) (λ f. (writable : Bool) (shard : Shard) → IfErr result (λ e. TellsCause e (first_fault kinds.now writable shard f))) }
+    ensures fails { IfSome (D.image disk.old) (λ f. (writable : Bool) (shard : Shard)
+        → IfErr result (λ e. TellsCause e (first_fault kinds.now writable shard f))) }
     ensures image { D.image disk.new ≡ D.image disk.old }
     ensures cause { HasOpenCause (D.fault_count disk.old) (D.fault_count disk.new) result }
-    ensures still { OnlyReads D.may_leave D.moment D.left_since D.past D.left_with disk.old disk.new }
+    ensures still { OnlyReads D.may_leave D.moment D.left_since D.past D.left_with disk.old
+        disk.new }
 {
     let size = length_of(disk)?;
     if size < 64 {
@@ -122,7 +129,8 @@ fn check_count(
     count: usize,
     before: Option<u64>,
 ) -> Result<(), OpenError>
-    ensures exact { (w : Walk) → count ≡ length (records_in w.blocks) → w.least ≡ least_behind before → Finds result (count_fault writable closing.now w) }
+    ensures exact { (w : Walk) → count ≡ length (records_in w.blocks)
+        → w.least ≡ least_behind before → Finds result (count_fault writable closing.now w) }
     ensures no_fault { IsErrOf result OpenError.Fault → ⊥ }
 {
     let is_above = before.is_none_or(|number| number < closing.next);
@@ -144,13 +152,17 @@ fn check_end<D: Disk>(
     writable: bool,
 ) -> Result<(), OpenError>
     requires { length walker.old.heads.items ≤ 2 ^ 24 }
-    ensures heads { (p place : ℕ) (w : Walk) → IsAt p place walker.old w → OnOk result (HeadsAre p walker.new.heads.items w.blocks) }
-    ensures ends { (h : Head) (place : ℕ) (w : Walk) → IsAt h.p place walker.old w → OnOk result (HasHeads (D.image disk.old) h w closing.now writable) }
+    ensures heads { (p place : ℕ) (w : Walk) → IsAt p place walker.old w
+        → OnOk result (HeadsAre p walker.new.heads.items w.blocks) }
+    ensures ends { (h : Head) (place : ℕ) (w : Walk) → IsAt h.p place walker.old w
+        → OnOk result (HasHeads (D.image disk.old) h w closing.now writable) }
     ensures fails { (h : Head) (place : ℕ) (w : Walk) → IsAt h.p place walker.old w
-        → IfSome (D.image disk.old) (λ f. 64 + 8 * length walker.old.heads.items ≤ length f → IfErr result (λ e. TellsCause e (end_fault writable h closing.now f (Ends w)))) }
+        → IfSome (D.image disk.old) (λ f. 64 + 8 * length walker.old.heads.items ≤ length f
+        → IfErr result (λ e. TellsCause e (end_fault writable h closing.now f (Ends w)))) }
     ensures image { D.image disk.new ≡ D.image disk.old }
     ensures cause { HasOpenCause (D.fault_count disk.old) (D.fault_count disk.new) result }
-    ensures still { OnlyReads D.may_leave D.moment D.left_since D.past D.left_with disk.old disk.new }
+    ensures still { OnlyReads D.may_leave D.moment D.left_since D.past D.left_with disk.old
+        disk.new }
 {
     if let Some(first) = walker.open_group {
         return Err(OpenError::BrokenAt(first.place));
@@ -171,12 +183,16 @@ pub(crate) fn check_disk<D: Disk>(
     shard: ShardOf,
 ) -> Result<FoundHeads, OpenError>
     requires shard { shard.index < shard.of }
-    ensures exact { IfSome (D.image disk.old) (λ f. TellsResult result (first_fault kinds.now writable shard f)) }
-    ensures closed { IfOk result (λ r. IsClosedOn (D.image disk.old) kinds.now writable shard r.found r.heads.items) }
-    ensures head { IfSome (D.image disk.old) (λ f. IfOk result (λ r. static_at f ≡ Some r.found.head)) }
+    ensures exact { IfSome (D.image disk.old)
+        (λ f. TellsResult result (first_fault kinds.now writable shard f)) }
+    ensures closed { IfOk result (λ r. IsClosedOn (D.image disk.old) kinds.now writable shard
+        r.found r.heads.items) }
+    ensures head { IfSome (D.image disk.old)
+        (λ f. IfOk result (λ r. static_at f ≡ Some r.found.head)) }
     ensures image { D.image disk.new ≡ D.image disk.old }
     ensures cause { HasOpenCause (D.fault_count disk.old) (D.fault_count disk.new) result }
-    ensures still { OnlyReads D.may_leave D.moment D.left_since D.past D.left_with disk.old disk.new }
+    ensures still { OnlyReads D.may_leave D.moment D.left_since D.past D.left_with disk.old
+        disk.new }
 {
     let found = read_front(disk, kinds)?;
     let mut walker = walk_file(alloc, disk, &found.head, shard, found.closing.size)?;

@@ -13,7 +13,8 @@ use tk_model::{Bytes, Change, ChangeList, FaultList, Group, NoMemory, OpenError,
 
 /// A set of one key, and a remove of another.
 fn changes_of(alloc: Global, set: u8, removed: u8) -> Result<ChangeList, NoMemory>
-    ensures { IfOk result (λ l. l ≡ Put (record { key = set ∷ []; value = set ∷ [] }) ∷ Drop (removed ∷ []) ∷ []) }
+    ensures { IfOk result (λ l. l ≡ Put (record { key = set ∷ []; value = set ∷ [] }) ∷ Drop
+        (removed ∷ []) ∷ []) }
 {
     let key = Bytes::from_slice(alloc, &[set])?;
     let value = Bytes::from_slice(alloc, &[set])?;

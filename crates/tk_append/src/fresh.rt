@@ -118,7 +118,8 @@ pub fn write_fresh<D: Disk>(
         NoNewHeader (D.past disk.old) (D.past disk.new)) }
     ensures told { is_some (D.image disk.new) ≡ is_some (D.image disk.old) }
     ensures cause { HasFaultCause (D.fault_count disk.old) (D.fault_count disk.new) result }
-    ensures pasts { IfSome (D.image disk.old) (λ _. LeavesOnly D.moment D.left_with disk.old disk.new
+    ensures pasts { IfSome (D.image disk.old) (λ _. LeavesOnly D.moment D.left_with disk.old
+        disk.new
         (IsFreshMoment head.now (fresh_groups head.now.kind number pairs.now)
         (fresh_text head.now number pairs.now) (D.past disk.old))) }
 {
@@ -148,7 +149,8 @@ pub fn write_or_empty<D: Disk>(
     ensures no_memory { result ≡ Err DiskError.NoMemory → D.image disk.new ≡ D.image disk.old }
     ensures told { is_some (D.image disk.new) ≡ is_some (D.image disk.old) }
     ensures cause { HasFaultCause (D.fault_count disk.old) (D.fault_count disk.new) result }
-    ensures pasts { IfSome (D.image disk.old) (λ _. LeavesOnly D.moment D.left_with disk.old disk.new
+    ensures pasts { IfSome (D.image disk.old) (λ _. LeavesOnly D.moment D.left_with disk.old
+        disk.new
         (IsFreshMoment head.now (fresh_groups head.now.kind number pairs.now)
         (fresh_text head.now number pairs.now) (D.past disk.old))) }
 {

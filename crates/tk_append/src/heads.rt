@@ -23,8 +23,12 @@ fn head_fault_in(bytes: &[u8], heads: &[u64], first: usize, count: usize) -> Opt
     requires heads { first + count ≤ length heads.now }
     requires few { length heads.now ≤ 2 ^ 24 }
     ensures fault { MatchOption result
-        ((p : ℕ) (blocks : List Placed) (f : List ℕ) → HeadsAre p heads.now blocks → StartsWith (drop (64 + 8 * first) f) bytes.now → head_fault p blocks f (2 ^ p - first) first ≡ head_fault p blocks f (2 ^ p - (first + count)) (first + count))
-        (λ q. (p : ℕ) (blocks : List Placed) (f : List ℕ) → HeadsAre p heads.now blocks → StartsWith (drop (64 + 8 * first) f) bytes.now → head_fault p blocks f (2 ^ p - first) first ≡ Some q) }
+        ((p : ℕ) (blocks : List Placed) (f : List ℕ) → HeadsAre p heads.now blocks
+        → StartsWith (drop (64 + 8 * first) f) bytes.now → head_fault p blocks f (2 ^ p - first)
+        first ≡ head_fault p blocks f (2 ^ p - (first + count)) (first + count))
+        (λ q. (p : ℕ) (blocks : List Placed) (f : List ℕ) → HeadsAre p heads.now blocks
+        → StartsWith (drop (64 + 8 * first) f) bytes.now → head_fault p blocks f (2 ^ p - first)
+        first ≡ Some q) }
     ensures small { (i : ℕ) → slice_index bytes.now i < 256 }
 {
     for i in 0..count {
@@ -43,11 +47,14 @@ pub(crate) fn head_fault<D: Disk>(
     heads: &[u64],
 ) -> Result<Option<u64>, OpenError>
     requires { length heads.now ≤ 2 ^ 24 }
-    ensures fault { IfOk result (λ o. MatchOption o (HeadsStand (D.image disk.old) heads.now) (λ q. HeadFails (D.image disk.old) heads.now q)) }
-    ensures outside { IfSome (D.image disk.old) (λ f. 64 + 8 * length heads.now ≤ length f → IfErr result IsOutside) }
+    ensures fault { IfOk result (λ o. MatchOption o (HeadsStand (D.image disk.old) heads.now)
+        (λ q. HeadFails (D.image disk.old) heads.now q)) }
+    ensures outside { IfSome (D.image disk.old) (λ f. 64 + 8 * length heads.now ≤ length f
+        → IfErr result IsOutside) }
     ensures image { D.image disk.new ≡ D.image disk.old }
     ensures cause { HasOpenCause (D.fault_count disk.old) (D.fault_count disk.new) result }
-    ensures still { OnlyReads D.may_leave D.moment D.left_since D.past D.left_with disk.old disk.new }
+    ensures still { OnlyReads D.may_leave D.moment D.left_since D.past D.left_with disk.old
+        disk.new }
 {
     let mut buffer = zeros(alloc, 8 * PIECE.min(heads.len()))?;
     let mut first = 0;

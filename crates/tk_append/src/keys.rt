@@ -14,7 +14,9 @@ use tk_block::Block;
 use tk_model::NoMemory;
 
 fn add(alloc: Global, keys: &mut HashSet<Vec<u8>>, key: &[u8]) -> Result<(), NoMemory>
-    ensures { (pairs : List Pair) (value : List ℕ) → HasKeys keys.old pairs → OnOk result (HasKeys keys.new (after_one Hash (Put (record { key = key.now; value = value })) pairs)) }
+    ensures { (pairs : List Pair) (value : List ℕ) → HasKeys keys.old pairs
+        → OnOk result
+        (HasKeys keys.new (after_one Hash (Put (record { key = key.now; value = value })) pairs)) }
 {
     keys.insert(Vec::from_slice(alloc, key)?)?;
     Ok(())
@@ -26,7 +28,9 @@ pub(crate) fn change_keys(
     keys: &mut HashSet<Vec<u8>>,
     block: Block<'_>,
 ) -> Result<(), NoMemory>
-    ensures { (pairs : List Pair) → HasKeys keys.old pairs → OnOk result (HasKeys keys.new (after_one Hash (change_in (body_said block.entry)) pairs)) }
+    ensures { (pairs : List Pair) → HasKeys keys.old pairs
+        → OnOk result (HasKeys keys.new (after_one Hash (change_in (body_said block.entry))
+        pairs)) }
 {
     match block.kind {
         1 => add(alloc, keys, block.key),

@@ -74,7 +74,8 @@ impl<D: Disk> GroupLog<D> {
     /// Lends the disk.
     pub fn disk(&mut self) -> &mut D
         ensures value { result.now ≡ log_disk self.old }
-        ensures* writes_back { sem 𝓛 (Lends (the_row D.row) D.row self.entry result (λ w. with_disk self.old w)) }
+        ensures* writes_back { sem 𝓛 (Lends (the_row D.row) D.row self.entry result
+            (λ w. with_disk self.old w)) }
     {
         &mut self.disk
     }
@@ -108,30 +109,54 @@ impl<D: Disk> GroupLog<D> {
 
     /// Adds the group that is ready, under this number, by one write.
     pub fn append(&mut self, number: u64) -> Result<(), DiskError>
-        requires reserved_text { (changes : List Change) × (links : List ℕ) × IsReservedText self.old changes links × (end_of (log_end self.old) (group_bodies number changes) ≤ 2 ^ 40) }
+        requires reserved_text { (changes : List Change) × (links : List ℕ)
+            × IsReservedText self.old changes links
+            × (end_of (log_end self.old) (group_bodies number changes) ≤ 2 ^ 40) }
         requires here { IfSome (D.image (log_disk self.old)) (λ f. length f ≡ log_end self.old) }
-        ensures written { (changes : List Change) (links : List ℕ) → IsReservedText self.old changes links
-            → OnOk result (D.image (log_disk self.new) ≡ option_map (λ f. f ++ group_text (record { number = number; changes = changes }) (log_end self.old) links) (D.image (log_disk self.old))) }
-        ensures end { (changes : List Change) (links : List ℕ) → IsReservedText self.old changes links
-            → OnOk result (log_end self.new ≡ end_of (log_end self.old) (group_bodies number changes)) }
+        ensures written { (changes : List Change) (links : List ℕ)
+            → IsReservedText self.old changes links
+            → OnOk result (D.image (log_disk self.new) ≡ option_map
+            (λ f. f ++ group_text (record { number = number; changes = changes }) (log_end self.old)
+            links) (D.image (log_disk self.old))) }
+        ensures end { (changes : List Change) (links : List ℕ)
+            → IsReservedText self.old changes links
+            → OnOk result (log_end self.new ≡ end_of (log_end self.old)
+            (group_bodies number changes)) }
         ensures err_end { OnErr result (log_end self.new ≡ log_end self.old) }
-        ensures stands { (groups : List Group) (changes : List Change) (links : List ℕ) → Stands D.image self.old groups → IsReservedText self.old changes links
-            → links ≡ links_of (log_head self.old).p (blocks_of (log_head self.old) groups) (laid (log_end self.old) (group_bodies number changes))
-            → OnOk result (Stands D.image self.new (groups ++ record { number = number; changes = changes } ∷ [])) }
+        ensures stands { (groups : List Group) (changes : List Change) (links : List ℕ)
+            → Stands D.image self.old groups → IsReservedText self.old changes links
+            → links ≡ links_of (log_head self.old).p (blocks_of (log_head self.old) groups)
+            (laid (log_end self.old) (group_bodies number changes))
+            → OnOk result
+            (Stands D.image self.new (groups ++ record { number = number; changes = changes }
+            ∷ [])) }
         ensures head { log_head self.new ≡ log_head self.old }
-        ensures told { is_some (D.image (log_disk self.new)) ≡ is_some (D.image (log_disk self.old)) }
+        ensures told { is_some (D.image (log_disk self.new))
+            ≡ is_some (D.image (log_disk self.old)) }
         ensures taken { D.taken_count (log_disk self.new) ≡ D.taken_count (log_disk self.old) }
-        ensures cause { HasCause (D.fault_count (log_disk self.old)) (D.fault_count (log_disk self.new)) result }
-        ensures crash { (changes : List Change) (links : List ℕ) → IsReservedText self.old changes links
-            → Follows (Torn (log_end self.old) (length (group_text (record { number = number; changes = changes }) (log_end self.old) links))) (D.may_leave (log_disk self.old)) (D.may_leave (log_disk self.new)) }
-        ensures time { (changes : List Change) (links : List ℕ) → IsReservedText self.old changes links
-            → LeavesOnly D.moment D.left_since (log_disk self.old) (log_disk self.new) (λ c. (d : List ℕ) × D.may_leave (log_disk self.old) d × Torn (log_end self.old) (length (group_text (record { number = number; changes = changes }) (log_end self.old) links)) d c) }
-        ensures past { (changes : List Change) (links : List ℕ) → IsReservedText self.old changes links
+        ensures cause { HasCause (D.fault_count (log_disk self.old))
+            (D.fault_count (log_disk self.new)) result }
+        ensures crash { (changes : List Change) (links : List ℕ)
+            → IsReservedText self.old changes links
+            → Follows (Torn (log_end self.old)
+            (length (group_text (record { number = number; changes = changes }) (log_end self.old)
+            links))) (D.may_leave (log_disk self.old)) (D.may_leave (log_disk self.new)) }
+        ensures time { (changes : List Change) (links : List ℕ)
+            → IsReservedText self.old changes links
+            → LeavesOnly D.moment D.left_since (log_disk self.old) (log_disk self.new)
+            (λ c. (d : List ℕ) × D.may_leave (log_disk self.old) d
+            × Torn (log_end self.old)
+            (length (group_text (record { number = number; changes = changes }) (log_end self.old)
+            links)) d c) }
+        ensures past { (changes : List Change) (links : List ℕ)
+            → IsReservedText self.old changes links
             → Writes (log_end self.old) (ready_text self.old number changes links)
             (D.past (log_disk self.old)) (D.past (log_disk self.new)) }
-        ensures pasts { (changes : List Change) (links : List ℕ) → IsReservedText self.old changes links
+        ensures pasts { (changes : List Change) (links : List ℕ)
+            → IsReservedText self.old changes links
             → PastOnly D.moment D.left_with (log_disk self.old) (log_disk self.new)
-            (Writes (log_end self.old) (ready_text self.old number changes links) (D.past (log_disk self.old))) }
+            (Writes (log_end self.old) (ready_text self.old number changes links)
+            (D.past (log_disk self.old))) }
     {
         renumber(&mut self.reserved_text, self.end, number);
         self.disk.write_at(self.end, self.reserved_text.as_slice())?;
@@ -142,16 +167,23 @@ impl<D: Disk> GroupLog<D> {
     /// After a hard sync a crash leaves what a read gives.
     pub fn sync_log(&mut self, hard: bool) -> Result<(), DiskError>
         ensures image { OnOk result (D.image (log_disk self.new) ≡ D.image (log_disk self.old)) }
-        ensures stands { (groups : List Group) → Stands D.image self.old groups → OnOk result (Stands D.image self.new groups) }
+        ensures stands { (groups : List Group) → Stands D.image self.old groups
+            → OnOk result (Stands D.image self.new groups) }
         ensures head { log_head self.new ≡ log_head self.old }
         ensures end { log_end self.new ≡ log_end self.old }
-        ensures told { is_some (D.image (log_disk self.new)) ≡ is_some (D.image (log_disk self.old)) }
+        ensures told { is_some (D.image (log_disk self.new))
+            ≡ is_some (D.image (log_disk self.old)) }
         ensures taken { D.taken_count (log_disk self.new) ≡ D.taken_count (log_disk self.old) }
-        ensures cause { HasCause (D.fault_count (log_disk self.old)) (D.fault_count (log_disk self.new)) result }
-        ensures durable { hard ≡ true → OnOk result (IfSome (D.image (log_disk self.old)) (λ f. Only f (D.may_leave (log_disk self.new)))) }
+        ensures cause { HasCause (D.fault_count (log_disk self.old))
+            (D.fault_count (log_disk self.new)) result }
+        ensures durable { hard ≡ true
+            → OnOk result (IfSome (D.image (log_disk self.old))
+            (λ f. Only f (D.may_leave (log_disk self.new)))) }
         ensures crash { Within (D.may_leave (log_disk self.old)) (D.may_leave (log_disk self.new)) }
-        ensures time { LeavesOnly D.moment D.left_since (log_disk self.old) (log_disk self.new) (D.may_leave (log_disk self.old)) }
-        ensures past { Settles (D.image (log_disk self.old)) (D.past (log_disk self.old)) (D.past (log_disk self.new)) }
+        ensures time { LeavesOnly D.moment D.left_since (log_disk self.old) (log_disk self.new)
+            (D.may_leave (log_disk self.old)) }
+        ensures past { Settles (D.image (log_disk self.old)) (D.past (log_disk self.old))
+            (D.past (log_disk self.new)) }
         ensures pasts { PastOnly D.moment D.left_with (log_disk self.old) (log_disk self.new)
             (Settles (D.image (log_disk self.old)) (D.past (log_disk self.old))) }
         ensures settled { hard ≡ true → IfSome (D.image (log_disk self.old)) (λ f.
@@ -165,16 +197,23 @@ impl<D: Disk> GroupLog<D> {
     /// Writes the closing part of the header.
     fn put_closing(&mut self, closing: &Closing) -> Result<(), DiskError>
         requires there { IfSome (D.image (log_disk self.old)) (λ f. 64 ≤ length f) }
-        ensures written { OnOk result (D.image (log_disk self.new) ≡ option_map (with_closing closing.now) (D.image (log_disk self.old))) }
-        ensures stands { (groups : List Group) → Stands D.image self.old groups → OnOk result (Stands D.image self.new groups) }
+        ensures written { OnOk result (D.image (log_disk self.new) ≡ option_map
+            (with_closing closing.now) (D.image (log_disk self.old))) }
+        ensures stands { (groups : List Group) → Stands D.image self.old groups
+            → OnOk result (Stands D.image self.new groups) }
         ensures head { log_head self.new ≡ log_head self.old }
         ensures end { log_end self.new ≡ log_end self.old }
-        ensures told { is_some (D.image (log_disk self.new)) ≡ is_some (D.image (log_disk self.old)) }
+        ensures told { is_some (D.image (log_disk self.new))
+            ≡ is_some (D.image (log_disk self.old)) }
         ensures taken { D.taken_count (log_disk self.new) ≡ D.taken_count (log_disk self.old) }
-        ensures cause { HasCause (D.fault_count (log_disk self.old)) (D.fault_count (log_disk self.new)) result }
-        ensures crash { Follows (Torn 32 32) (D.may_leave (log_disk self.old)) (D.may_leave (log_disk self.new)) }
-        ensures time { LeavesOnly D.moment D.left_since (log_disk self.old) (log_disk self.new) (λ c. (d : List ℕ) × D.may_leave (log_disk self.old) d × Torn 32 32 d c) }
-        ensures past { Writes 32 (closing_text closing.now) (D.past (log_disk self.old)) (D.past (log_disk self.new)) }
+        ensures cause { HasCause (D.fault_count (log_disk self.old))
+            (D.fault_count (log_disk self.new)) result }
+        ensures crash { Follows (Torn 32 32) (D.may_leave (log_disk self.old))
+            (D.may_leave (log_disk self.new)) }
+        ensures time { LeavesOnly D.moment D.left_since (log_disk self.old) (log_disk self.new)
+            (λ c. (d : List ℕ) × D.may_leave (log_disk self.old) d × Torn 32 32 d c) }
+        ensures past { Writes 32 (closing_text closing.now) (D.past (log_disk self.old))
+            (D.past (log_disk self.new)) }
         ensures pasts { PastOnly D.moment D.left_with (log_disk self.old) (log_disk self.new)
             (Writes 32 (closing_text closing.now) (D.past (log_disk self.old))) }
     {
@@ -184,16 +223,23 @@ impl<D: Disk> GroupLog<D> {
     /// Writes that the file is open, and makes that durable.
     pub fn mark_open(&mut self) -> Result<(), DiskError>
         requires there { IfSome (D.image (log_disk self.old)) (λ f. 64 ≤ length f) }
-        ensures written { OnOk result (D.image (log_disk self.new) ≡ option_map (with_closing open_mark) (D.image (log_disk self.old))) }
-        ensures stands { (groups : List Group) → Stands D.image self.old groups → OnOk result (Stands D.image self.new groups) }
+        ensures written { OnOk result (D.image (log_disk self.new) ≡ option_map
+            (with_closing open_mark) (D.image (log_disk self.old))) }
+        ensures stands { (groups : List Group) → Stands D.image self.old groups
+            → OnOk result (Stands D.image self.new groups) }
         ensures head { log_head self.new ≡ log_head self.old }
         ensures end { log_end self.new ≡ log_end self.old }
-        ensures told { is_some (D.image (log_disk self.new)) ≡ is_some (D.image (log_disk self.old)) }
+        ensures told { is_some (D.image (log_disk self.new))
+            ≡ is_some (D.image (log_disk self.old)) }
         ensures taken { D.taken_count (log_disk self.new) ≡ D.taken_count (log_disk self.old) }
-        ensures cause { HasCause (D.fault_count (log_disk self.old)) (D.fault_count (log_disk self.new)) result }
-        ensures crash { Follows (Torn 32 32) (D.may_leave (log_disk self.old)) (D.may_leave (log_disk self.new)) }
-        ensures durable { OnOk result (IfSome (D.image (log_disk self.new)) (λ f. Only f (D.may_leave (log_disk self.new)))) }
-        ensures time { LeavesOnly D.moment D.left_since (log_disk self.old) (log_disk self.new) (λ c. (d : List ℕ) × D.may_leave (log_disk self.old) d × Torn 32 32 d c) }
+        ensures cause { HasCause (D.fault_count (log_disk self.old))
+            (D.fault_count (log_disk self.new)) result }
+        ensures crash { Follows (Torn 32 32) (D.may_leave (log_disk self.old))
+            (D.may_leave (log_disk self.new)) }
+        ensures durable { OnOk result (IfSome (D.image (log_disk self.new))
+            (λ f. Only f (D.may_leave (log_disk self.new)))) }
+        ensures time { LeavesOnly D.moment D.left_since (log_disk self.old) (log_disk self.new)
+            (λ c. (d : List ℕ) × D.may_leave (log_disk self.old) d × Torn 32 32 d c) }
         ensures past { Marks open_mark (D.image (log_disk self.old))
             (D.past (log_disk self.old)) (D.past (log_disk self.new)) }
         ensures pasts { PastOnly D.moment D.left_with (log_disk self.old) (log_disk self.new)
@@ -213,19 +259,30 @@ impl<D: Disk> GroupLog<D> {
     /// Makes all durable, and then that the file is closed with this count of records and this next number.
     pub fn close_log(&mut self, count: u64, next: u64) -> Result<(), DiskError>
         requires there { IfSome (D.image (log_disk self.old)) (λ f. 64 ≤ length f) }
-        ensures written { OnOk result (D.image (log_disk self.new) ≡ option_map (with_closing (record { size = log_end self.old; count = count; next = next })) (D.image (log_disk self.old))) }
-        ensures stands { (groups : List Group) → Stands D.image self.old groups → OnOk result (Stands D.image self.new groups) }
+        ensures written { OnOk result (D.image (log_disk self.new) ≡ option_map
+            (with_closing (record { size = log_end self.old; count = count; next = next }))
+            (D.image (log_disk self.old))) }
+        ensures stands { (groups : List Group) → Stands D.image self.old groups
+            → OnOk result (Stands D.image self.new groups) }
         ensures head { log_head self.new ≡ log_head self.old }
         ensures end { log_end self.new ≡ log_end self.old }
-        ensures told { is_some (D.image (log_disk self.new)) ≡ is_some (D.image (log_disk self.old)) }
+        ensures told { is_some (D.image (log_disk self.new))
+            ≡ is_some (D.image (log_disk self.old)) }
         ensures taken { D.taken_count (log_disk self.new) ≡ D.taken_count (log_disk self.old) }
-        ensures cause { HasCause (D.fault_count (log_disk self.old)) (D.fault_count (log_disk self.new)) result }
-        ensures crash { Follows (Torn 32 32) (D.may_leave (log_disk self.old)) (D.may_leave (log_disk self.new)) }
-        ensures durable { OnOk result (IfSome (D.image (log_disk self.new)) (λ f. Only f (D.may_leave (log_disk self.new)))) }
-        ensures time { LeavesOnly D.moment D.left_since (log_disk self.old) (log_disk self.new) (λ c. (d : List ℕ) × D.may_leave (log_disk self.old) d × Torn 32 32 d c) }
-        ensures behind { IfSome (D.image (log_disk self.old)) (λ f. LeavesOnly D.moment D.left_since (log_disk self.old) (log_disk self.new) (λ c. D.may_leave (log_disk self.old) c ⊎ Torn 32 32 f c)) }
+        ensures cause { HasCause (D.fault_count (log_disk self.old))
+            (D.fault_count (log_disk self.new)) result }
+        ensures crash { Follows (Torn 32 32) (D.may_leave (log_disk self.old))
+            (D.may_leave (log_disk self.new)) }
+        ensures durable { OnOk result (IfSome (D.image (log_disk self.new))
+            (λ f. Only f (D.may_leave (log_disk self.new)))) }
+        ensures time { LeavesOnly D.moment D.left_since (log_disk self.old) (log_disk self.new)
+            (λ c. (d : List ℕ) × D.may_leave (log_disk self.old) d × Torn 32 32 d c) }
+        ensures behind { IfSome (D.image (log_disk self.old)) (λ f. LeavesOnly D.moment D.left_since
+            (log_disk self.old) (log_disk self.new) (λ c. D.may_leave (log_disk self.old) c
+            ⊎ Torn 32 32 f c)) }
         ensures past { Closes (record { size = log_end self.old; count = count; next = next })
-            (D.image (log_disk self.old)) (D.past (log_disk self.old)) (D.past (log_disk self.new)) }
+            (D.image (log_disk self.old)) (D.past (log_disk self.old))
+            (D.past (log_disk self.new)) }
         ensures pasts { PastOnly D.moment D.left_with (log_disk self.old) (log_disk self.new)
             (Closes (record { size = log_end self.old; count = count; next = next })
             (D.image (log_disk self.old)) (D.past (log_disk self.old))) }
@@ -242,17 +299,26 @@ impl<D: Disk> GroupLog<D> {
     pub fn set_cells(&mut self, bucket: u64, text: &[u8]) -> Result<(), DiskError>
         requires p { (log_head self.old).p ≤ 24 }
         requires text { 64 + 8 * bucket + length text.now ≤ base_of (log_head self.old).p }
-        requires there { IfSome (D.image (log_disk self.old)) (λ f. base_of (log_head self.old).p ≤ length f) }
-        ensures written { OnOk result (D.image (log_disk self.new) ≡ option_map (put_at (64 + 8 * bucket) text.now) (D.image (log_disk self.old))) }
-        ensures stands { (groups : List Group) → Stands D.image self.old groups → OnOk result (Stands D.image self.new groups) }
+        requires there { IfSome (D.image (log_disk self.old)) (λ f. base_of (log_head self.old).p
+            ≤ length f) }
+        ensures written { OnOk result (D.image (log_disk self.new) ≡ option_map
+            (put_at (64 + 8 * bucket) text.now) (D.image (log_disk self.old))) }
+        ensures stands { (groups : List Group) → Stands D.image self.old groups
+            → OnOk result (Stands D.image self.new groups) }
         ensures head { log_head self.new ≡ log_head self.old }
         ensures end { log_end self.new ≡ log_end self.old }
-        ensures told { is_some (D.image (log_disk self.new)) ≡ is_some (D.image (log_disk self.old)) }
+        ensures told { is_some (D.image (log_disk self.new))
+            ≡ is_some (D.image (log_disk self.old)) }
         ensures taken { D.taken_count (log_disk self.new) ≡ D.taken_count (log_disk self.old) }
-        ensures cause { HasCause (D.fault_count (log_disk self.old)) (D.fault_count (log_disk self.new)) result }
-        ensures crash { Follows (Torn (64 + 8 * bucket) (length text.now)) (D.may_leave (log_disk self.old)) (D.may_leave (log_disk self.new)) }
-        ensures time { LeavesOnly D.moment D.left_since (log_disk self.old) (log_disk self.new) (λ c. (d : List ℕ) × D.may_leave (log_disk self.old) d × Torn (64 + 8 * bucket) (length text.now) d c) }
-        ensures past { Writes (64 + 8 * bucket) text.now (D.past (log_disk self.old)) (D.past (log_disk self.new)) }
+        ensures cause { HasCause (D.fault_count (log_disk self.old))
+            (D.fault_count (log_disk self.new)) result }
+        ensures crash { Follows (Torn (64 + 8 * bucket) (length text.now))
+            (D.may_leave (log_disk self.old)) (D.may_leave (log_disk self.new)) }
+        ensures time { LeavesOnly D.moment D.left_since (log_disk self.old) (log_disk self.new)
+            (λ c. (d : List ℕ) × D.may_leave (log_disk self.old) d
+            × Torn (64 + 8 * bucket) (length text.now) d c) }
+        ensures past { Writes (64 + 8 * bucket) text.now (D.past (log_disk self.old))
+            (D.past (log_disk self.new)) }
         ensures pasts { PastOnly D.moment D.left_with (log_disk self.old) (log_disk self.new)
             (Writes (64 + 8 * bucket) text.now (D.past (log_disk self.old))) }
     {

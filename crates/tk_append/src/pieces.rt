@@ -19,7 +19,8 @@ pub(crate) fn flush<D: Disk>(
     requires behind { 0 < at.old }
     requires here { IfSome (D.image disk.old) (λ f. length f ≡ at.old) }
     requires end { at.old + length waiting.old ≤ 2 ^ 40 }
-    ensures text { (text : List ℕ) → Holds (D.image disk.old) at.old waiting.old text → OnOk result (Holds (D.image disk.new) at.new waiting.new text) }
+    ensures text { (text : List ℕ) → Holds (D.image disk.old) at.old waiting.old text
+        → OnOk result (Holds (D.image disk.new) at.new waiting.new text) }
     ensures here { OnOk result (IfSome (D.image disk.new) (λ f. length f ≡ at.new)) }
     ensures waits { OnOk result (waiting.new ≡ []) }
     ensures end { OnOk result (at.new ≡ at.old + length waiting.old) }
@@ -43,7 +44,8 @@ pub(crate) fn flush_piece<D: Disk>(
     requires behind { 0 < at.old }
     requires here { IfSome (D.image disk.old) (λ f. length f ≡ at.old) }
     requires end { at.old + length waiting.old ≤ 2 ^ 40 }
-    ensures text { (text : List ℕ) → Holds (D.image disk.old) at.old waiting.old text → OnOk result (Holds (D.image disk.new) at.new waiting.new text) }
+    ensures text { (text : List ℕ) → Holds (D.image disk.old) at.old waiting.old text
+        → OnOk result (Holds (D.image disk.new) at.new waiting.new text) }
     ensures here { OnOk result (IfSome (D.image disk.new) (λ f. length f ≡ at.new)) }
     ensures end { OnOk result (at.new + length waiting.new ≡ at.old + length waiting.old) }
     ensures front { OnOk result (at.old ≤ at.new) }

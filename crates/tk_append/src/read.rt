@@ -32,17 +32,21 @@ pub fn read_counted<D: Disk>(
     shard: ShardOf,
 ) -> Result<CountedLog<D>, Unopened<D>>
     requires shard { shard.index < shard.of }
-    ensures exact { IfSome (D.image disk) (λ f. Tells result (first_fault kinds.now writable shard f)) }
+    ensures exact { IfSome (D.image disk)
+        (λ f. Tells result (first_fault kinds.now writable shard f)) }
     ensures found { IfOk result (HasCounted D.image disk shard) }
     ensures kind { IfOk result (λ r. list_any (λ k. k == (log_head r.log).kind) kinds.now ≡ true) }
     ensures last { IfOk result (λ r. writable ≡ true → r.next ≤ 2 ^ 62) }
     ensures image { IfOk result (λ r. D.image (log_disk r.log) ≡ D.image disk) }
     ensures back { IfErr result (λ u. D.image u.disk ≡ D.image disk) }
-    ensures still { IfOk result (λ r. OnlyReads D.may_leave D.moment D.left_since D.past D.left_with disk (log_disk r.log)) }
-    ensures back_still { IfErr result (λ u. OnlyReads D.may_leave D.moment D.left_since D.past D.left_with disk u.disk) }
+    ensures still { IfOk result (λ r. OnlyReads D.may_leave D.moment D.left_since D.past D.left_with
+        disk (log_disk r.log)) }
+    ensures back_still { IfErr result (λ u. OnlyReads D.may_leave D.moment D.left_since D.past
+        D.left_with disk u.disk) }
     ensures counted { IfOk result (λ r. D.fault_count (log_disk r.log) ≡ D.fault_count disk) }
     ensures later { IfErr result (λ u. D.fault_count disk ≤ D.fault_count u.disk) }
-    ensures cause { IfErr result (λ u. u.cause ≡ OpenError.Fault → Rose (D.fault_count disk) (D.fault_count u.disk)) }
+    ensures cause { IfErr result (λ u. u.cause ≡ OpenError.Fault → Rose (D.fault_count disk)
+        (D.fault_count u.disk)) }
 {
     let mut disk = disk;
     match check_disk(alloc, &mut disk, kinds, writable, shard) {

@@ -78,7 +78,8 @@ impl Reading {
     /// The block may be read behind those so far.
     fn may_read(&self, found: &Standing<'_>) -> bool
         requires { IsSmall found.now.block.key.now found.now.block.value.now }
-        ensures { (w : Walk) → Knows self.now w → result ≡ may_be_read w found.now.extent (body_said found.now.block) }
+        ensures { (w : Walk) → Knows self.now w → result ≡ may_be_read w found.now.extent
+            (body_said found.now.block) }
     {
         let room = 44 + found.block.key.len() + found.block.value.len();
         room as u64 <= found.extent
@@ -88,7 +89,9 @@ impl Reading {
 
     /// One block more.
     fn add(&mut self, alloc: Global, place: u64, block: Block<'_>) -> Result<(), NoMemory>
-        ensures { (w : Walk) → Knows self.old w → OnOk result (Knows self.new (walked w (record { place = place; body = body_said block.entry }))) }
+        ensures { (w : Walk) → Knows self.old w
+            → OnOk result
+            (Knows self.new (walked w (record { place = place; body = body_said block.entry }))) }
     {
         self.begun.push(change_of(alloc, block)?)?;
         let number = block.number;
@@ -106,7 +109,8 @@ impl Reading {
     /// Reads the block at a place, and answers where the next may stand: at the end where none is read.
     fn step(&mut self, alloc: Global, bytes: &[u8], place: usize) -> Result<usize, NoMemory>
         requires { place < length bytes.now }
-        ensures read { (h : StaticHead) → ReadUpto h bytes.now place self.old → IfOk result (λ next. ReadUpto h bytes.now next self.new) }
+        ensures read { (h : StaticHead) → ReadUpto h bytes.now place self.old
+            → IfOk result (λ next. ReadUpto h bytes.now next self.new) }
         ensures further { IfOk result (λ next. place < next) }
         ensures within { IfOk result (λ next. next ≤ length bytes.now) }
     {

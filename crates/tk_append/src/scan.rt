@@ -24,10 +24,12 @@ pub(crate) fn walk_file<D: Disk>(
     requires shard { shard.index < shard.of }
     requires long { base_of head.now.p ≤ size }
     ensures walked { IfOk result (WalkedAll (D.image disk.old) head.now shard size) }
-    ensures fails { IfSome (D.image disk.old) (λ f. length f ≡ size → IfErr result (WalkFails head.now shard f)) }
+    ensures fails { IfSome (D.image disk.old) (λ f. length f ≡ size
+        → IfErr result (WalkFails head.now shard f)) }
     ensures image { D.image disk.new ≡ D.image disk.old }
     ensures cause { HasOpenCause (D.fault_count disk.old) (D.fault_count disk.new) result }
-    ensures still { OnlyReads D.may_leave D.moment D.left_since D.past D.left_with disk.old disk.new }
+    ensures still { OnlyReads D.may_leave D.moment D.left_since D.past D.left_with disk.old
+        disk.new }
 {
     let mut walker = Walker::new(alloc, head.p)?;
     let mut window = Window::new(alloc);

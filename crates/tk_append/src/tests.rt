@@ -32,7 +32,8 @@ pub(crate) fn add(
     key: &[u8],
     value: &[u8],
 ) -> Result<(), NoMemory>
-    ensures { OnOk result (pairs.new ≡ pairs.old ++ record { key = key.now; value = value.now } ∷ []) }
+    ensures { OnOk result (pairs.new ≡ pairs.old ++ record { key = key.now; value = value.now }
+        ∷ []) }
 {
     let key = Bytes::from_slice(alloc, key)?;
     let value = Bytes::from_slice(alloc, value)?;

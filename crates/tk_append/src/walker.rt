@@ -78,7 +78,9 @@ fn is_padded(bytes: &[u8], extent: u64, block: Block<'_>) -> bool
 /// The block lies within the bytes, has the least extent that fits and zero padding.
 fn is_well_laid(bytes: &[u8], extent: u64, block: Block<'_>) -> bool
     requires small { IsSmall block.key.now block.value.now }
-    ensures { result ≡ (nat_le extent (length bytes.now) && (extent == extent_of (body_said block.entry)) && is_padded bytes.now extent (body_said block.entry)) }
+    ensures { result ≡ (nat_le extent (length bytes.now) &&
+        (extent == extent_of (body_said block.entry)) && is_padded bytes.now extent
+        (body_said block.entry)) }
 {
     extent <= bytes.len() as u64
         && extent == extent_of(block.key.len(), block.value.len())
@@ -137,7 +139,8 @@ impl Walker {
         requires p { p ≤ 24 }
         requires heads { length self.now.heads.items ≡ 2 ^ p }
         requires hash { found.now.hash ≡ mix_of found.now.block.key.now }
-        ensures { (place : ℕ) (w : Walk) → IsAt p place self.now w → result ≡ link_of p w.blocks (body_said found.now.block) }
+        ensures { (place : ℕ) (w : Walk) → IsAt p place self.now w → result ≡ link_of p w.blocks
+            (body_said found.now.block) }
     {
         if found.block.kind == 4 {
             return 0;
@@ -156,7 +159,9 @@ impl Walker {
         requires shard { shard.index < shard.of }
         requires small { IsSmall found.now.block.key.now found.now.block.value.now }
         requires hash { found.now.hash ≡ mix_of found.now.block.key.now }
-        ensures { (place : ℕ) (w : Walk) → IsAt head.now.p place self.now w → result ≡ may_stand head.now shard w bytes.now found.now.extent (body_said found.now.block) }
+        ensures { (place : ℕ) (w : Walk) → IsAt head.now.p place self.now w
+            → result ≡ may_stand head.now shard w bytes.now found.now.extent
+            (body_said found.now.block) }
     {
         is_well_laid(bytes, found.extent, found.block)
             && found.block.kind != 3
@@ -176,8 +181,11 @@ impl Walker {
         requires heads { length self.now.heads.items ≡ 2 ^ head.now.p }
         requires shard { shard.index < shard.of }
         requires place { place + length bytes.now < 2 ^ 64 }
-        ensures found { (w : Walk) → IsAt head.now.p place self.now w → IfOk result (λ s. MayFollow head.now shard w place bytes.now s.extent (body_said s.block)) }
-        ensures fails { (w : Walk) → IsAt head.now.p place self.now w → IfErr result (Fails head.now shard w place bytes.now) }
+        ensures found { (w : Walk) → IsAt head.now.p place self.now w
+            → IfOk result (λ s. MayFollow head.now shard w place bytes.now s.extent
+            (body_said s.block)) }
+        ensures fails { (w : Walk) → IsAt head.now.p place self.now w
+            → IfErr result (Fails head.now shard w place bytes.now) }
         ensures block { IfOk result (HasBlock place bytes.now) }
     {
         let Some(found) = block_at(bytes, place) else {
@@ -197,8 +205,10 @@ impl Walker {
         requires p { p ≤ 24 }
         requires heads { length self.old.heads.items ≡ 2 ^ p }
         requires hash { found.now.hash ≡ mix_of found.now.block.key.now }
-        ensures heads { (blocks : List Placed) → NewestIn p place self.old.heads.items self.old.cleared blocks → IsOfKind (body_said found.now.block)
-            → (next : ℕ) → place < next → NewestIn p next self.new.heads.items self.new.cleared (blocks ++ record { place = place; body = body_said found.now.block } ∷ []) }
+        ensures heads { (blocks : List Placed) → NewestIn p place self.old.heads.items
+            self.old.cleared blocks → IsOfKind (body_said found.now.block)
+            → (next : ℕ) → place < next → NewestIn p next self.new.heads.items self.new.cleared
+            (blocks ++ record { place = place; body = body_said found.now.block } ∷ []) }
         ensures keys { self.new.keys ≡ self.old.keys }
         ensures before { self.new.before ≡ self.old.before }
         ensures open_group { self.new.open_group ≡ self.old.open_group }
@@ -212,8 +222,12 @@ impl Walker {
 
     /// The block ends its group, or goes on with one.
     fn turn_group(&mut self, place: u64, block: Block<'_>)
-        ensures before { (least : ℕ) → least ≡ least_behind self.old.before → (if block.entry.last then block.entry.number + 1 else least) ≡ least_behind self.new.before }
-        ensures open_group { (first : Option Placed) → self.old.open_group ≡ option_map as_open first → self.new.open_group ≡ option_map as_open (opened_by first (record { place = place; body = body_said block.entry })) }
+        ensures before { (least : ℕ) → least ≡ least_behind self.old.before
+            → (if block.entry.last then block.entry.number + 1 else least) ≡ least_behind
+            self.new.before }
+        ensures open_group { (first : Option Placed) → self.old.open_group ≡ option_map as_open
+            first → self.new.open_group ≡ option_map as_open
+            (opened_by first (record { place = place; body = body_said block.entry })) }
         ensures heads { self.new.heads.items ≡ self.old.heads.items }
         ensures cleared { self.new.cleared ≡ self.old.cleared }
         ensures keys { self.new.keys ≡ self.old.keys }
@@ -240,8 +254,11 @@ impl Walker {
         requires p { p ≤ 24 }
         requires heads { length self.old.heads.items ≡ 2 ^ p }
         requires hash { found.now.hash ≡ mix_of found.now.block.key.now }
-        ensures walked { (w : Walk) (next : ℕ) → IsAt p place self.old w → IsOfKind (body_said found.now.block) → place < next
-            → OnOk result (IsAt p next self.new (walked w (record { place = place; body = body_said found.now.block }))) }
+        ensures walked { (w : Walk) (next : ℕ) → IsAt p place self.old w
+            → IsOfKind (body_said found.now.block) → place < next
+            → OnOk result
+            (IsAt p next self.new
+            (walked w (record { place = place; body = body_said found.now.block }))) }
     {
         change_keys(alloc, &mut self.keys, found.block)?;
         self.turn_heads(p, place, found);
@@ -262,8 +279,10 @@ impl Walker {
         requires heads { length self.old.heads.items ≡ 2 ^ head.now.p }
         requires shard { shard.index < shard.of }
         requires place { place + length bytes.now < 2 ^ 64 }
-        ensures passed { (w : Walk) → IsAt head.now.p place self.old w → IfOk result (λ e. Passed head.now shard w place bytes.now e self.new) }
-        ensures fails { (w : Walk) → IsAt head.now.p place self.old w → IfErr result (Fails head.now shard w place bytes.now) }
+        ensures passed { (w : Walk) → IsAt head.now.p place self.old w
+            → IfOk result (λ e. Passed head.now shard w place bytes.now e self.new) }
+        ensures fails { (w : Walk) → IsAt head.now.p place self.old w
+            → IfErr result (Fails head.now shard w place bytes.now) }
     {
         let found = self.judge(head, shard, place, bytes)?;
         self.pass(alloc, head.p, place, &found)?;
@@ -286,7 +305,8 @@ impl Walker {
 
     /// Makes 0 of the heads in front of the last clear.
     pub fn settle(&mut self)
-        ensures heads { (p place : ℕ) (blocks : List Placed) → NewestIn p place self.old.heads.items self.old.cleared blocks → HeadsAre p self.new.heads.items blocks }
+        ensures heads { (p place : ℕ) (blocks : List Placed) → NewestIn p place self.old.heads.items
+            self.old.cleared blocks → HeadsAre p self.new.heads.items blocks }
         ensures same { length self.new.heads.items ≡ length self.old.heads.items }
         ensures keys { self.new.keys ≡ self.old.keys }
         ensures before { self.new.before ≡ self.old.before }

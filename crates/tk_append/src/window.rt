@@ -21,12 +21,15 @@ const LONGEST: u64 = 1 << 26;
 /// Fills the bytes from a place of the disk's file on. A file that ends before is not as long as its closing part says.
 pub fn read_piece<D: Disk>(disk: &mut D, at: u64, into: &mut [u8]) -> Result<(), OpenError>
     ensures shows { OnOk result (Shows (D.image disk.old) at into.new) }
-    ensures outside { IfSome (D.image disk.old) (λ f. at + length into.old ≤ length f → IfErr result IsOutside) }
-    ensures short { IfErr result (λ e. IsOutside e ⊎ ((e ≡ BrokenAt 32) × (D.fault_count disk.new ≡ D.fault_count disk.old))) }
+    ensures outside { IfSome (D.image disk.old) (λ f. at + length into.old ≤ length f
+        → IfErr result IsOutside) }
+    ensures short { IfErr result (λ e. IsOutside e
+        ⊎ ((e ≡ BrokenAt 32) × (D.fault_count disk.new ≡ D.fault_count disk.old))) }
     ensures unmet { IsErrOf result errors.NoMemory → ⊥ }
     ensures image { D.image disk.new ≡ D.image disk.old }
     ensures cause { HasOpenCause (D.fault_count disk.old) (D.fault_count disk.new) result }
-    ensures still { OnlyReads D.may_leave D.moment D.left_since D.past D.left_with disk.old disk.new }
+    ensures still { OnlyReads D.may_leave D.moment D.left_since D.past D.left_with disk.old
+        disk.new }
 {
     match disk.read_at(at, into) {
         Ok(got) if got == into.len() => Ok(()),
@@ -108,12 +111,16 @@ impl Window {
     /// Reads so many bytes behind those that are there.
     fn read<D: Disk>(&mut self, disk: &mut D, at: u64, count: usize) -> Result<(), OpenError>
         requires { count ≤ room self.old }
-        ensures more { OnOk result ((more : List ℕ) × (items self.new ≡ items self.old ++ more) × (length more ≡ count) × Shows (D.image disk.old) at more) }
-        ensures outside { IfSome (D.image disk.old) (λ f. at + count ≤ length f → IfErr result IsOutside) }
-        ensures short { IfErr result (λ e. IsOutside e ⊎ ((e ≡ BrokenAt 32) × (D.fault_count disk.new ≡ D.fault_count disk.old))) }
+        ensures more { OnOk result ((more : List ℕ) × (items self.new ≡ items self.old ++ more)
+            × (length more ≡ count) × Shows (D.image disk.old) at more) }
+        ensures outside { IfSome (D.image disk.old) (λ f. at + count ≤ length f
+            → IfErr result IsOutside) }
+        ensures short { IfErr result (λ e. IsOutside e
+            ⊎ ((e ≡ BrokenAt 32) × (D.fault_count disk.new ≡ D.fault_count disk.old))) }
         ensures image { D.image disk.new ≡ D.image disk.old }
         ensures cause { HasOpenCause (D.fault_count disk.old) (D.fault_count disk.new) result }
-        ensures still { OnlyReads D.may_leave D.moment D.left_since D.past D.left_with disk.old disk.new }
+        ensures still { OnlyReads D.may_leave D.moment D.left_since D.past D.left_with disk.old
+            disk.new }
     {
         let end = self.end;
         read_piece(disk, at, &mut self.buffer[end..end + count])?;
@@ -133,14 +140,18 @@ impl Window {
         requires end { place + left < 2 ^ 64 }
         requires held { length (items self.old) ≤ left }
         ensures grows { OnOk result (StartsWith (items self.new) (items self.old)) }
-        ensures shows { Shows (D.image disk.old) place (items self.old) → OnOk result (Shows (D.image disk.old) place (items self.new)) }
+        ensures shows { Shows (D.image disk.old) place (items self.old)
+            → OnOk result (Shows (D.image disk.old) place (items self.new)) }
         ensures long { OnOk result (min need left ≤ length (items self.new)) }
         ensures held { OnOk result (length (items self.new) ≤ left) }
-        ensures outside { IfSome (D.image disk.old) (λ f. place + left ≤ length f → IfErr result IsOutside) }
-        ensures short { IfErr result (λ e. IsOutside e ⊎ ((e ≡ BrokenAt 32) × (D.fault_count disk.new ≡ D.fault_count disk.old))) }
+        ensures outside { IfSome (D.image disk.old) (λ f. place + left ≤ length f
+            → IfErr result IsOutside) }
+        ensures short { IfErr result (λ e. IsOutside e
+            ⊎ ((e ≡ BrokenAt 32) × (D.fault_count disk.new ≡ D.fault_count disk.old))) }
         ensures image { D.image disk.new ≡ D.image disk.old }
         ensures cause { HasOpenCause (D.fault_count disk.old) (D.fault_count disk.new) result }
-        ensures still { OnlyReads D.may_leave D.moment D.left_since D.past D.left_with disk.old disk.new }
+        ensures still { OnlyReads D.may_leave D.moment D.left_since D.past D.left_with disk.old
+            disk.new }
     {
         let held = self.as_slice().len() as u64;
         if need.min(left) <= held {
@@ -161,12 +172,15 @@ impl Window {
         requires end { place + left < 2 ^ 64 }
         requires held { length (items self.old) ≤ left }
         ensures block { OnOk result (HoldsBlock left (items self.new)) }
-        ensures shows { Shows (D.image disk.old) place (items self.old) → OnOk result (Shows (D.image disk.old) place (items self.new)) }
+        ensures shows { Shows (D.image disk.old) place (items self.old)
+            → OnOk result (Shows (D.image disk.old) place (items self.new)) }
         ensures held { OnOk result (length (items self.new) ≤ left) }
-        ensures outside { IfSome (D.image disk.old) (λ f. place + left ≤ length f → IfErr result IsOutside) }
+        ensures outside { IfSome (D.image disk.old) (λ f. place + left ≤ length f
+            → IfErr result IsOutside) }
         ensures image { D.image disk.new ≡ D.image disk.old }
         ensures cause { HasOpenCause (D.fault_count disk.old) (D.fault_count disk.new) result }
-        ensures still { OnlyReads D.may_leave D.moment D.left_since D.past D.left_with disk.old disk.new }
+        ensures still { OnlyReads D.may_leave D.moment D.left_since D.past D.left_with disk.old
+            disk.new }
     {
         self.fill(disk, place, 24, left)?;
         let bytes = self.as_slice();

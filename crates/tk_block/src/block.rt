@@ -120,7 +120,8 @@ fn is_body(block: Block<'_>) -> bool
 
 /// Where the check stands, if the bytes are long enough for the lengths at their front.
 fn check_place(bytes: &[u8]) -> Option<usize>
-    ensures { result ≡ if nat_le (check_in bytes.now + check_size) (length bytes.now) then Some (check_in bytes.now) else None }
+    ensures { result ≡ if nat_le (check_in bytes.now + check_size) (length bytes.now) then Some
+        (check_in bytes.now) else None }
 {
     if bytes.len() < NUMBERS_SIZE + CHECK_SIZE {
         return None;
@@ -154,7 +155,8 @@ fn is_spelled(bytes: &[u8], check_at: usize, block: Block<'_>, place: u64) -> bo
     requires long { check_at + check_size ≤ length bytes.now }
     requires fields { body_said block ≡ body_in bytes.now }
     requires small { IsSmall block.key.now block.value.now }
-    ensures { result ≡ bytes_eq (take (check_in bytes.now + check_size) bytes.now) (body_text (body_in bytes.now) place) }
+    ensures { result ≡ bytes_eq (take (check_in bytes.now + check_size) bytes.now)
+        (body_text (body_in bytes.now) place) }
 {
     let numbers = numbers_of(block);
     let sum = check(&bytes[..check_at], place).to_be_bytes();

@@ -47,7 +47,8 @@ pub fn write_changes(
     requires small { AllSmall changes.now }
     requires links { length links.now ≡ length changes.now }
     requires end { end_of place (group_bodies number changes.now) ≤ 2 ^ 40 }
-    ensures ok { OnOk result (out.new ≡ out.old ++ texts (laid place (group_bodies number changes.now)) links.now) }
+    ensures ok { OnOk result (out.new ≡ out.old ++ texts
+        (laid place (group_bodies number changes.now)) links.now) }
     ensures err { OnErr result (StartsWith out.new out.old) }
 {
     let count = changes.len();

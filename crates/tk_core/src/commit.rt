@@ -22,8 +22,11 @@ impl Core {
         entry: &Entry,
     ) -> Result<bool, NoMemory>
         requires { records.old ≡ records_of self.now }
-        ensures may { IfOk result (λ may. Decides may (AnyCaller self.now caller (MayCommit self.now.frame (λ m. true ≡ true) [] entry.now))) }
-        ensures after { IfOk result (λ may. may ≡ true → records.new ≡ after_call entry.now (records_of self.now)) }
+        ensures may { IfOk result
+            (λ may. Decides may (AnyCaller self.now caller
+            (MayCommit self.now.frame (λ m. true ≡ true) [] entry.now))) }
+        ensures after { IfOk result (λ may. may ≡ true → records.new ≡ after_call entry.now
+            (records_of self.now)) }
     {
         let at = caller as usize;
         if at >= self.rows.len() {
@@ -47,7 +50,8 @@ impl Core {
         entry: &Entry,
     ) -> Result<bool, NoMemory>
         requires { records.old ≡ records_of self.old }
-        ensures answer { IfOk result (λ done. IsAnswer (moves.Commit caller entry.now) self.old self.new done) }
+        ensures answer { IfOk result (λ done. IsAnswer (moves.Commit caller entry.now) self.old
+            self.new done) }
         ensures records { IfOk result (λ done. done ≡ true → records.new ≡ records_of self.new) }
         ensures want { IfErr result (λ e. self.new ≡ self.old) }
     {
@@ -78,7 +82,11 @@ fn push_copy(log: &mut Vec<Entry>, entry: &Entry) -> Result<(), NoMemory>
 /// The records after a history that is legal.
 pub(crate) fn replay(alloc: Global, order: Order, history: &[Entry]) -> Result<PlainMap, NoMemory>
     requires { legal order [] history.now ≡ true }
-    ensures { IfOk result (λ map. map ≡ record { order = order; pairs = replay_entries order history.now [] }) }
+    ensures { IfOk result (λ map. map ≡ record {
+      order = order;
+      pairs = replay_entries order
+          history.now [];
+    }) }
 {
     let mut map = PlainMap::new(alloc, order);
     for entry in history {
@@ -165,8 +173,10 @@ fn may_make(
 ) -> Result<bool, NoMemory>
     requires frame { IsFrame frame }
     requires order { records.old.order ≡ frame.order }
-    ensures may { IfOk result (λ may. Decides may (MayMake frame (hand row.now) records.old.pairs entry.now)) }
-    ensures after { IfOk result (λ may. may ≡ true → records.new ≡ after_call entry.now records.old) }
+    ensures may { IfOk result (λ may. Decides may (MayMake frame (hand row.now) records.old.pairs
+        entry.now)) }
+    ensures after { IfOk result (λ may. may ≡ true → records.new ≡ after_call entry.now
+        records.old) }
 {
     if !covers_reads(frame, &row.held, entry) {
         return Ok(false);

@@ -19,9 +19,7 @@ enum Kind {
     Clear,
 }
 
-const ALL: [u32; 18] = [
-    0, 1, 2, 3, 4, 5, 6, 7, 8, 9, 10, 11, 12, 13, 14, 15, 16, 17,
-];
+const ALL: [u32; 18] = [0, 1, 2, 3, 4, 5, 6, 7, 8, 9, 10, 11, 12, 13, 14, 15, 16, 17];
 
 fn touch(alloc: Global, was: Option<Bytes>, action: Action) -> Result<TouchList, Fail> {
     let mut touches = TouchList::new(alloc);

@@ -20,7 +20,8 @@ use tk_model::NoMemory;
 
 impl Core {
     fn may_take(&self, caller: u32, lock: u32) -> bool
-        ensures { Decides result (AnyCaller self.now caller (MayTake self.now.frame (owner_of self.now) lock)) }
+        ensures { Decides result (AnyCaller self.now caller
+            (MayTake self.now.frame (owner_of self.now) lock)) }
     {
         let at = caller as usize;
         if at >= self.rows.len() {
@@ -46,7 +47,8 @@ impl Core {
     /// The store of the lock, where it is broken.
     fn broken_store(&self, lock: u32) -> Option<u32>
         ensures stripe { lock < self.now.frame.stripes → result ≡ None }
-        ensures store { (i : ℕ) → lock ≡ store_lock self.now.frame i → result ≡ then_some (get_or self.now.spoilt i false) i }
+        ensures store { (i : ℕ) → lock ≡ store_lock self.now.frame i
+            → result ≡ then_some (get_or self.now.spoilt i false) i }
     {
         let store = lock.checked_sub(self.frame.stripes)?;
         let is_broken = *self.spoilt.get(store as usize)?;
@@ -55,7 +57,8 @@ impl Core {
 
     /// The caller holds the lock.
     pub(crate) fn take(&mut self, caller: u32, lock: u32) -> Result<bool, NoMemory>
-        ensures answer { IfOk result (λ done. IsAnswer (moves.Take caller lock) self.old self.new done) }
+        ensures answer { IfOk result (λ done. IsAnswer (moves.Take caller lock) self.old self.new
+            done) }
         ensures want { IfErr result (λ e. self.new ≡ self.old) }
     {
         if !self.may_take(caller, lock) {
@@ -80,7 +83,8 @@ impl Core {
 
     /// The lock is free.
     pub(crate) fn give(&mut self, caller: u32, lock: u32) -> Result<bool, NoMemory>
-        ensures answer { IfOk result (λ done. IsAnswer (moves.Give caller lock) self.old self.new done) }
+        ensures answer { IfOk result (λ done. IsAnswer (moves.Give caller lock) self.old self.new
+            done) }
         ensures want { IfErr result (λ e. self.new ≡ self.old) }
     {
         if !self.may_give(caller, lock) {
@@ -93,7 +97,8 @@ impl Core {
     }
 
     fn may_put_back(&self, caller: u32, store: u32, broken: bool) -> bool
-        ensures { Decides result (AnyCaller self.now caller (MayPutBack self.now.frame [] self.now.log (λ gs n. Unit {0}) store broken)) }
+        ensures { Decides result (AnyCaller self.now caller
+            (MayPutBack self.now.frame [] self.now.log (λ gs n. Unit {0}) store broken)) }
     {
         let at = caller as usize;
         if at >= self.rows.len() {
@@ -112,7 +117,8 @@ impl Core {
         store: u32,
         broken: bool,
     ) -> Result<bool, NoMemory>
-        ensures answer { IfOk result (λ done. IsAnswer (moves.Back caller store broken) self.old self.new done) }
+        ensures answer { IfOk result (λ done. IsAnswer (moves.Back caller store broken) self.old
+            self.new done) }
         ensures want { IfErr result (λ e. self.new ≡ self.old) }
     {
         if !self.may_put_back(caller, store, broken) {
@@ -140,14 +146,16 @@ impl Core {
     }
 
     fn may_join(&self, caller: u32, other: u32) -> bool
-        ensures { Decides result ((caller ≢ other) × AnyCaller self.now caller IsIdle × AnyCaller self.now other IsIdle) }
+        ensures { Decides result ((caller ≢ other) × AnyCaller self.now caller IsIdle
+            × AnyCaller self.now other IsIdle) }
     {
         caller != other && self.is_idle(caller) && self.is_idle(other)
     }
 
     /// The caller has all that the other had.
     pub(crate) fn join(&mut self, caller: u32, other: u32) -> Result<bool, NoMemory>
-        ensures answer { IfOk result (λ done. IsAnswer (moves.Join caller other) self.old self.new done) }
+        ensures answer { IfOk result (λ done. IsAnswer (moves.Join caller other) self.old self.new
+            done) }
         ensures want { IfErr result (λ e. self.new ≡ self.old) }
     {
         if !self.may_join(caller, other) {
@@ -173,8 +181,15 @@ impl Row {
 
     /// The row has the lock, wants none, and has met the store that was found broken.
     fn hold(&mut self, lock: u32, base: usize, found: Option<u32>) -> Result<(), NoMemory>
-        ensures held { IfOk result (λ _. (log : List Entry) → caller_of log self.new ≡ record (caller_of log self.old) { held = lock ∷ self.old.held.items; want = None; base = firsts base log; met = option_to_list found ++ self.old.met.items }) }
-        ensures want { IfErr result (λ e. (log : List Entry) → caller_of log self.new ≡ caller_of log self.old) }
+        ensures held { IfOk result (λ _. (log : List Entry) → caller_of log self.new
+            ≡ record (caller_of log self.old) {
+              held = lock ∷ self.old.held.items;
+              want = None;
+              base = firsts base log;
+              met = option_to_list found ++ self.old.met.items;
+            }) }
+        ensures want { IfErr result (λ e. (log : List Entry) → caller_of log self.new ≡ caller_of
+            log self.old) }
     {
         self.held.reserve(1)?;
         put_first(&mut self.met, found)?;
@@ -185,7 +200,8 @@ impl Row {
     }
 
     fn may_give(&self, frame: &Frame, lock: u32) -> bool
-        ensures { (log : List Entry) → Decides result (MayGive frame.now lock (caller_of log self.now)) }
+        ensures { (log : List Entry)
+            → Decides result (MayGive frame.now lock (caller_of log self.now)) }
     {
         if !self.live {
             return false;
@@ -201,8 +217,14 @@ impl Row {
 
     /// A store that the row is breaking is among those that it broke.
     fn settle(&mut self, store: u32) -> Result<(), NoMemory>
-        ensures settled { IfOk result (λ _. (log : List Entry) → caller_of log self.new ≡ record (caller_of log self.old) { breaking = without store self.old.breaking.items; broke = cond (has store self.old.breaking.items) (store ∷ self.old.broke.items) self.old.broke.items }) }
-        ensures want { IfErr result (λ e. (log : List Entry) → caller_of log self.new ≡ caller_of log self.old) }
+        ensures settled { IfOk result (λ _. (log : List Entry) → caller_of log self.new
+            ≡ record (caller_of log self.old) {
+              breaking = without store self.old.breaking.items;
+              broke = cond (has store self.old.breaking.items) (store ∷ self.old.broke.items)
+                  self.old.broke.items;
+            }) }
+        ensures want { IfErr result (λ e. (log : List Entry) → caller_of log self.new ≡ caller_of
+            log self.old) }
     {
         let newly = holds(&self.breaking, store).then_some(store);
         put_first(&mut self.broke, newly)?;
@@ -212,9 +234,13 @@ impl Row {
 
     /// The row has the lock no more, and wants none. The lock may be that of a store.
     fn give_up(&mut self, lock: u32, store: Option<u32>) -> Result<(), NoMemory>
-        ensures stripe { store ≡ None → IfOk result (λ _. (log : List Entry) → caller_of log self.new ≡ gave_stripe lock (caller_of log self.old)) }
-        ensures store { (f : Frame) (i : ℕ) → store ≡ Some i → lock ≡ store_lock f i → IfOk result (λ _. (log : List Entry) → caller_of log self.new ≡ gave_store f i (caller_of log self.old)) }
-        ensures want { IfErr result (λ e. (log : List Entry) → caller_of log self.new ≡ caller_of log self.old) }
+        ensures stripe { store ≡ None → IfOk result (λ _. (log : List Entry)
+            → caller_of log self.new ≡ gave_stripe lock (caller_of log self.old)) }
+        ensures store { (f : Frame) (i : ℕ) → store ≡ Some i → lock ≡ store_lock f i
+            → IfOk result (λ _. (log : List Entry) → caller_of log self.new ≡ gave_store f i
+            (caller_of log self.old)) }
+        ensures want { IfErr result (λ e. (log : List Entry) → caller_of log self.new ≡ caller_of
+            log self.old) }
     {
         if let Some(store) = store {
             self.settle(store)?;
@@ -232,7 +258,8 @@ impl Row {
     }
 
     fn may_put_back(&self, store: u32, broken: bool) -> bool
-        ensures { Decides result ((self.now.live ≡ true) × (has store self.now.out.items ≡ true) × (knows_broken (caller_of [] self.now) store ≡ true → broken ≡ true)) }
+        ensures { Decides result ((self.now.live ≡ true) × (has store self.now.out.items ≡ true)
+            × (knows_broken (caller_of [] self.now) store ≡ true → broken ≡ true)) }
     {
         if !self.live {
             return false;
@@ -245,8 +272,10 @@ impl Row {
 
     /// The store is with the row no more, and newly broken by it where it is broken and wasn't.
     fn bring_back(&mut self, store: u32, broken: bool) -> Result<(), NoMemory>
-        ensures back { IfOk result (λ _. (log : List Entry) → caller_of log self.new ≡ put_back store broken (caller_of log self.old)) }
-        ensures want { IfErr result (λ e. (log : List Entry) → caller_of log self.new ≡ caller_of log self.old) }
+        ensures back { IfOk result (λ _. (log : List Entry) → caller_of log self.new
+            ≡ put_back store broken (caller_of log self.old)) }
+        ensures want { IfErr result (λ e. (log : List Entry) → caller_of log self.new ≡ caller_of
+            log self.old) }
     {
         let newly = broken && !self.knows_broken(store);
         put_first(&mut self.breaking, newly.then_some(store))?;
@@ -276,8 +305,12 @@ impl Row {
     /// The row has all that the other had, and the other nothing any more.
     fn absorb(&mut self, other: &mut Row) -> Result<(), NoMemory>
         requires room { self.old.allowance + other.old.allowance < 2 ^ 64 }
-        ensures joined { IfOk result (λ _. (log : List Entry) → (caller_of log self.new ≡ joined (caller_of log self.old) (caller_of log other.old)) × (caller_of log other.new ≡ spent)) }
-        ensures want { IfErr result (λ e. (log : List Entry) → (caller_of log self.new ≡ caller_of log self.old) × (caller_of log other.new ≡ caller_of log other.old)) }
+        ensures joined { IfOk result (λ _. (log : List Entry)
+            → (caller_of log self.new ≡ joined (caller_of log self.old) (caller_of log other.old))
+            × (caller_of log other.new ≡ spent)) }
+        ensures want { IfErr result (λ e. (log : List Entry)
+            → (caller_of log self.new ≡ caller_of log self.old)
+            × (caller_of log other.new ≡ caller_of log other.old)) }
     {
         other.mine.reserve(self.mine.len())?;
         self.broke.reserve(other.broke.len())?;

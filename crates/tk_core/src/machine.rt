@@ -40,9 +40,26 @@ impl Model for Core {
 
     ghost Value = { CoreState };
 
-    ghost view = { λ c. record { frame = c.frame; log = c.log.items; owners = c.owners.items; spoilt = c.spoilt.items; away = c.away.items; callers = map (caller_of c.log.items) c.rows.items } };
+    ghost view = { λ c. record {
+      frame = c.frame;
+      log = c.log.items;
+      owners = c.owners.items;
+      spoilt = c.spoilt.items;
+      away = c.away.items;
+      callers = map (caller_of c.log.items)
+          c.rows.items;
+    } };
 
-    ghost invariant = { λ c. IsCore (record { frame = c.frame; log = c.log.items; owners = c.owners.items; spoilt = c.spoilt.items; away = c.away.items; callers = map (caller_of c.log.items) c.rows.items }) };
+    ghost invariant = { λ c. IsCore
+        (record {
+          frame = c.frame;
+          log = c.log.items;
+          owners = c.owners.items;
+          spoilt = c.spoilt.items;
+          away = c.away.items;
+          callers = map (caller_of c.log.items)
+              c.rows.items;
+        }) };
 }
 
 impl Core {
@@ -52,7 +69,13 @@ impl Core {
         requires few_stores { stores ≤ 64 }
         requires some_stripes { 16 ≤ stripes }
         requires few_stripes { stripes ≤ 1024 }
-        ensures { IfOk result (λ c. c ≡ first_state (record { stripes = stripes; stores = stores; order = order; base = 0 })) }
+        ensures { IfOk result
+            (λ c. c ≡ first_state (record {
+              stripes = stripes;
+              stores = stores;
+              order = order;
+              base = 0;
+            })) }
     {
         let mut owners = Vec::new(alloc);
         owners.resize((stripes + stores) as usize, 0)?;

@@ -39,8 +39,10 @@ impl Core {
     /// Does the moves in order, stops at the first that isn't allowed, and answers how many were done.
     pub fn run(&mut self, alloc: Global, moves: &MoveList) -> Result<u64, NoMemory>
         ensures frame { self.new.frame ≡ self.old.frame }
-        ensures far { IfOk result (λ n. RunsFar self.old.frame moves.now (state_of self.old) (state_of self.new) n) }
-        ensures want { IfErr result (λ e. (n : ℕ) × (n ≤ length moves.now) × Runs self.old.frame (take n moves.now) (state_of self.old) (state_of self.new)) }
+        ensures far { IfOk result (λ n. RunsFar self.old.frame moves.now (state_of self.old)
+            (state_of self.new) n) }
+        ensures want { IfErr result (λ e. (n : ℕ) × (n ≤ length moves.now)
+            × Runs self.old.frame (take n moves.now) (state_of self.old) (state_of self.new)) }
         ensures sound { IsSound self.new.frame (state_of self.new) }
         ensures no_ring { HasNoRing self.new.callers }
     {

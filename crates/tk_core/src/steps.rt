@@ -36,7 +36,8 @@ impl Core {
     }
 
     fn may_miss(&self, caller: u32, lock: u32) -> bool
-        ensures { Decides result (AnyCaller self.now caller (MayMiss self.now.frame (owner_of self.now) lock)) }
+        ensures { Decides result (AnyCaller self.now caller
+            (MayMiss self.now.frame (owner_of self.now) lock)) }
     {
         let at = caller as usize;
         if at >= self.rows.len() {
@@ -87,7 +88,8 @@ impl Core {
 
     /// Half of the caller's allowance goes to a new caller.
     pub(crate) fn split(&mut self, alloc: Global, caller: u32) -> Result<bool, NoMemory>
-        ensures answer { IfOk result (λ done. IsAnswer (moves.Split caller) self.old self.new done) }
+        ensures answer { IfOk result (λ done. IsAnswer (moves.Split caller) self.old self.new
+            done) }
         ensures want { IfErr result (λ e. self.new ≡ self.old) }
     {
         if !self.may_split(caller) {
@@ -136,7 +138,8 @@ impl Core {
 
     /// The store is with the caller.
     pub(crate) fn take_out(&mut self, caller: u32, store: u32) -> Result<bool, NoMemory>
-        ensures answer { IfOk result (λ done. IsAnswer (moves.Out caller store) self.old self.new done) }
+        ensures answer { IfOk result (λ done. IsAnswer (moves.Out caller store) self.old self.new
+            done) }
         ensures want { IfErr result (λ e. self.new ≡ self.old) }
     {
         if !self.may_take_out(caller, store) {

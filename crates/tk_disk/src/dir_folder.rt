@@ -41,8 +41,10 @@ fn path_of(alloc: Global, directory: &str, name: &str) -> Result<PathBuf, NoMemo
 fn keep(alloc: Global, places: &mut Vec<Place<Visit>>, name: &str) -> Result<u64, NoMemory>
     ensures kept { OnOk result (IsSome (held_at places.new.items name.now)) }
     ensures faults { IfOk result (λ n. n ≡ visit_faults (held_at places.old.items name.now)) }
-    ensures same { (m : List ℕ) → visit_faults (held_at places.new.items m) ≡ visit_faults (held_at places.old.items m) }
-    ensures same_out { (m : List ℕ) → visit_is_out (held_at places.new.items m) ≡ visit_is_out (held_at places.old.items m) }
+    ensures same { (m : List ℕ) → visit_faults (held_at places.new.items m) ≡ visit_faults
+        (held_at places.old.items m) }
+    ensures same_out { (m : List ℕ) → visit_is_out (held_at places.new.items m) ≡ visit_is_out
+        (held_at places.old.items m) }
 {
     match find(places, name) {
         Some(i) => Ok(places[i].held.faults),

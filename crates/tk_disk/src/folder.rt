@@ -46,10 +46,14 @@ pub trait Folder {
     /// The disk of a file. An absent file gives none, or with `create` an empty disk.
     fn take(&mut self, name: &str, create: bool) -> Result<Option<Self::D>, DiskError>
         requires home { is_out self.old name.now ≡ false }
-        ensures absent { IfOk result (λ o. IfNone o ((create ≡ false) × (tells self.old ≡ true → file self.old name.now ≡ None))) }
-        ensures there { IfOk result (λ o. OnSome o (create ≡ false → tells self.old ≡ true → IsSome (file self.old name.now))) }
-        ensures image { IfOk result (λ o. IfSome o (λ d. tells self.old ≡ true → Self.D.image d ≡ Some (or_empty (file self.old name.now)))) }
-        ensures count { IfOk result (λ o. IfSome o (λ d. Self.D.fault_count d ≡ disk_faults self.old name.now)) }
+        ensures absent { IfOk result (λ o. IfNone o ((create ≡ false)
+            × (tells self.old ≡ true → file self.old name.now ≡ None))) }
+        ensures there { IfOk result (λ o. OnSome o (create ≡ false → tells self.old ≡ true
+            → IsSome (file self.old name.now))) }
+        ensures image { IfOk result (λ o. IfSome o (λ d. tells self.old ≡ true
+            → Self.D.image d ≡ Some (or_empty (file self.old name.now)))) }
+        ensures count { IfOk result (λ o. IfSome o (λ d. Self.D.fault_count d ≡ disk_faults self.old
+            name.now)) }
         ensures out { IfOk result (λ o. OnSome o (is_out self.new name.now ≡ true)) }
         ensures none_out { IfOk result (λ o. IfNone o (is_out self.new name.now ≡ false)) }
         ensures err_out { OnErr result (is_out self.new name.now ≡ false) }
@@ -60,7 +64,8 @@ pub trait Folder {
         ensures counts { (m : List ℕ) → disk_faults self.new m ≡ disk_faults self.old m }
         ensures tells { tells self.new ≡ tells self.old }
         ensures cause { HasFaultCause (fault_count self.old) (fault_count self.new) result }
-        ensures unmet { IsErrOf result DiskError.NoMemory → fault_count self.new ≡ fault_count self.old }
+        ensures unmet { IsErrOf result DiskError.NoMemory → fault_count self.new ≡ fault_count
+            self.old }
         ensures crash { IfOk result (λ o. IfSome o (λ d.
             SameHistory (moment_of self.old name.now) (Self.D.moment d)
             (leaves self.old name.now) (Self.D.may_leave d)
@@ -94,19 +99,27 @@ pub trait Folder {
             KeepsHistory moment_of leaves left_since past_of left_with self.old self.new m };
 
     /// What a file holds is one of the images.
-    ghost reads_left: { (folder : Self) (name f : List ℕ) → file folder name ≡ Some f → leaves folder name f };
+    ghost reads_left: { (folder : Self) (name f : List ℕ) → file folder name ≡ Some f
+        → leaves folder name f };
 
     /// This moment is one of those since an earlier one.
-    ghost counts_now: { (folder : Self) (name : List ℕ) (t : ℕ) (c : List ℕ) → t ≤ moment_of folder name → leaves folder name c → left_since folder name t c };
+    ghost counts_now: { (folder : Self) (name : List ℕ) (t : ℕ) (c : List ℕ)
+        → t ≤ moment_of folder name → leaves folder name c → left_since folder name t c };
 
     /// Since this moment there is no other.
-    ghost only_now: { (folder : Self) (name c : List ℕ) → left_since folder name (moment_of folder name) c → leaves folder name c };
+    ghost only_now: { (folder : Self) (name c : List ℕ)
+        → left_since folder name (moment_of folder name) c → leaves folder name c };
 
     /// With the past of this moment, too.
-    ghost counts_with: { (folder : Self) (name : List ℕ) (t : ℕ) (c : List ℕ) → t ≤ moment_of folder name → leaves folder name c → left_with folder name t (past_of folder name, c) };
+    ghost counts_with: { (folder : Self) (name : List ℕ) (t : ℕ) (c : List ℕ)
+        → t ≤ moment_of folder name → leaves folder name c
+        → left_with folder name t (past_of folder name, c) };
 
-    ghost only_with: { (folder : Self) (name : List ℕ) (x : Past × List ℕ) → left_with folder name (moment_of folder name) x → (x.0 ≡ past_of folder name) × leaves folder name x.1 };
+    ghost only_with: { (folder : Self) (name : List ℕ) (x : Past × List ℕ)
+        → left_with folder name (moment_of folder name) x → (x.0 ≡ past_of folder name)
+        × leaves folder name x.1 };
 
     /// What was left with a past was left.
-    ghost since_with: { (folder : Self) (name : List ℕ) (t : ℕ) (x : Past × List ℕ) → left_with folder name t x → left_since folder name t x.1 };
+    ghost since_with: { (folder : Self) (name : List ℕ) (t : ℕ) (x : Past × List ℕ)
+        → left_with folder name t x → left_since folder name t x.1 };
 }

@@ -37,7 +37,8 @@ fn faults_of(slot: &Slot) -> u64
 }
 
 fn bytes_of(slot: &Slot) -> Option<&[u8]>
-    ensures { MatchOption result (slot_file (Some slot.now) ≡ None) (λ b. slot_file (Some slot.now) ≡ Some b.now) }
+    ensures { MatchOption result (slot_file (Some slot.now) ≡ None) (λ b. slot_file (Some slot.now)
+        ≡ Some b.now) }
 {
     match slot {
         Slot::Here(disk) => Some(disk.bytes()),
@@ -49,7 +50,8 @@ fn bytes_of(slot: &Slot) -> Option<&[u8]>
 fn take_out(places: &mut [Place<Slot>], name: &str) -> Option<MemDisk>
     requires home { slot_is_out (held_at places.old name.now) ≡ false }
     ensures disk { result ≡ slot_disk (held_at places.old name.now) }
-    ensures out { OnSome result (held_at places.new name.now ≡ Some (Slot.Out (slot_faults (held_at places.old name.now)))) }
+    ensures out { OnSome result (held_at places.new name.now ≡ Some
+        (Slot.Out (slot_faults (held_at places.old name.now)))) }
     ensures absent { IfNone result (IsAbsent places.old name.now) }
     ensures none { IfNone result (held_at places.old name.now ≡ None) }
     ensures same { IfNone result (places.new ≡ places.old) }
@@ -112,7 +114,8 @@ impl MemFolder {
     pub fn add(&mut self, name: &str, disk: MemDisk) -> Result<(), NoMemory>
         requires home { folder_is_out self.old name.now ≡ false }
         ensures here { OnOk result (folder_disk self.new name.now ≡ Some disk) }
-        ensures crash { OnOk result (SameHistory (mem_moment disk) (folder_moment_of self.new name.now)
+        ensures crash { OnOk result (SameHistory (mem_moment disk)
+            (folder_moment_of self.new name.now)
             (MemMayLeave disk) (FolderLeaves self.new name.now)
             (MemLeftSince disk) (FolderLeftSince self.new name.now)
             (mem_past disk) (folder_past_of self.new name.now)
@@ -123,9 +126,11 @@ impl MemFolder {
         ensures count { OnOk result (folder_disk_faults self.new name.now ≡ mem_faults disk) }
         ensures others { SameBut name.now (folder_disk self.old) (folder_disk self.new) }
         ensures others_out { SameBut name.now (folder_is_out self.old) (folder_is_out self.new) }
-        ensures others_count { SameBut name.now (folder_disk_faults self.old) (folder_disk_faults self.new) }
+        ensures others_count { SameBut name.now (folder_disk_faults self.old)
+            (folder_disk_faults self.new) }
         ensures err { OnErr result (folder_disk self.new name.now ≡ folder_disk self.old name.now) }
-        ensures err_count { OnErr result (folder_disk_faults self.new name.now ≡ folder_disk_faults self.old name.now) }
+        ensures err_count { OnErr result (folder_disk_faults self.new name.now ≡ folder_disk_faults
+            self.old name.now) }
         ensures room { folder_room self.new ≡ folder_room self.old }
         ensures list { folder_list self.new ≡ folder_list self.old }
         ensures calls { folder_calls self.new ≡ folder_calls self.old }
@@ -137,7 +142,8 @@ impl MemFolder {
     /// What the file of a name holds.
     pub fn bytes(&self, name: &str) -> Option<&[u8]>
         requires home { folder_is_out self.now name.now ≡ false }
-        ensures { MatchOption result (folder_file self.now name.now ≡ None) (λ b. folder_file self.now name.now ≡ Some b.now) }
+        ensures { MatchOption result (folder_file self.now name.now ≡ None)
+            (λ b. folder_file self.now name.now ≡ Some b.now) }
     {
         match find(&self.places, name) {
             Some(i) => bytes_of(&self.places[i].held),
@@ -149,7 +155,8 @@ impl MemFolder {
     fn begin(&mut self) -> Result<(), DiskError>
         ensures exact { IsErr result ↔ (folder_fails self.old ≡ true) }
         ensures cause { HasCause (folder_faults self.old) (folder_faults self.new) result }
-        ensures counted { OnErr result (folder_faults self.new ≡ capped (folder_faults self.old + 1)) }
+        ensures counted { OnErr result (folder_faults self.new ≡ capped
+            (folder_faults self.old + 1)) }
         ensures calls { folder_calls self.new ≡ capped (folder_calls self.old + 1) }
         ensures list { folder_list self.new ≡ folder_list self.old }
         ensures room { folder_room self.new ≡ folder_room self.old }
@@ -169,7 +176,8 @@ impl MemFolder {
         requires { IsAbsent self.old.places.items name.now }
         ensures fresh { IfOk result (IsNewDisk (folder_room self.old)) }
         ensures out { OnOk result (held_at self.new.places.items name.now ≡ Some (Slot.Out 0)) }
-        ensures others { SameBut name.now (held_at self.old.places.items) (held_at self.new.places.items) }
+        ensures others { SameBut name.now (held_at self.old.places.items)
+            (held_at self.new.places.items) }
         ensures err { OnErr result (self.new.places.items ≡ self.old.places.items) }
         ensures list { folder_list self.new ≡ folder_list self.old }
         ensures room { folder_room self.new ≡ folder_room self.old }
@@ -233,21 +241,29 @@ impl Folder for MemFolder {
 
     fn take(&mut self, name: &str, create: bool) -> Result<Option<MemDisk>, DiskError>
         requires home { folder_is_out self.old name.now ≡ false }
-        ensures absent { IfOk result (λ o. IfNone o ((create ≡ false) × (folder_tells self.old ≡ true → folder_file self.old name.now ≡ None))) }
-        ensures there { IfOk result (λ o. OnSome o (create ≡ false → folder_tells self.old ≡ true → IsSome (folder_file self.old name.now))) }
-        ensures image { IfOk result (λ o. IfSome o (λ d. folder_tells self.old ≡ true → mem_image d ≡ Some (or_empty (folder_file self.old name.now)))) }
-        ensures count { IfOk result (λ o. IfSome o (λ d. mem_faults d ≡ folder_disk_faults self.old name.now)) }
+        ensures absent { IfOk result (λ o. IfNone o ((create ≡ false)
+            × (folder_tells self.old ≡ true → folder_file self.old name.now ≡ None))) }
+        ensures there { IfOk result (λ o. OnSome o (create ≡ false → folder_tells self.old ≡ true
+            → IsSome (folder_file self.old name.now))) }
+        ensures image { IfOk result (λ o. IfSome o (λ d. folder_tells self.old ≡ true
+            → mem_image d ≡ Some (or_empty (folder_file self.old name.now)))) }
+        ensures count { IfOk result (λ o. IfSome o (λ d. mem_faults d ≡ folder_disk_faults self.old
+            name.now)) }
         ensures out { IfOk result (λ o. OnSome o (folder_is_out self.new name.now ≡ true)) }
         ensures none_out { IfOk result (λ o. IfNone o (folder_is_out self.new name.now ≡ false)) }
         ensures err_out { OnErr result (folder_is_out self.new name.now ≡ false) }
         ensures others_out { SameBut name.now (folder_is_out self.old) (folder_is_out self.new) }
         ensures others { SameBut name.now (folder_file self.old) (folder_file self.new) }
-        ensures none_same { IfOk result (λ o. IfNone o (folder_file self.new name.now ≡ folder_file self.old name.now)) }
-        ensures err_same { OnErr result (folder_file self.new name.now ≡ folder_file self.old name.now) }
-        ensures counts { (m : List ℕ) → folder_disk_faults self.new m ≡ folder_disk_faults self.old m }
+        ensures none_same { IfOk result (λ o. IfNone o (folder_file self.new name.now ≡ folder_file self.old
+            name.now)) }
+        ensures err_same { OnErr result (folder_file self.new name.now ≡ folder_file self.old
+            name.now) }
+        ensures counts { (m : List ℕ) → folder_disk_faults self.new m ≡ folder_disk_faults self.old
+            m }
         ensures tells { folder_tells self.new ≡ folder_tells self.old }
         ensures cause { HasFaultCause (folder_faults self.old) (folder_faults self.new) result }
-        ensures unmet { IsErrOf result DiskError.NoMemory → folder_faults self.new ≡ folder_faults self.old }
+        ensures unmet { IsErrOf result DiskError.NoMemory → folder_faults self.new ≡ folder_faults
+            self.old }
         ensures crash { IfOk result (λ o. IfSome o (λ d.
             SameHistory (folder_moment_of self.old name.now) (mem_moment d)
             (FolderLeaves self.old name.now) (MemMayLeave d)
@@ -258,9 +274,11 @@ impl Folder for MemFolder {
         ensures err_crash { OnErr result (FolderKeeps self.old self.new name.now) }
         ensures others_crash { (m : List ℕ) → m ≢ name.now → FolderKeeps self.old self.new m }
         ensures exact { FailsByList self.old self.new result }
-        ensures disk { IfOk result (λ o. IfSome o (IsTakenFrom (folder_disk self.old name.now) (folder_room self.old))) }
+        ensures disk { IfOk result (λ o. IfSome o (IsTakenFrom (folder_disk self.old name.now)
+            (folder_room self.old))) }
         ensures others_disk { SameBut name.now (folder_disk self.old) (folder_disk self.new) }
-        ensures err_disk { OnErr result (folder_disk self.new name.now ≡ folder_disk self.old name.now) }
+        ensures err_disk { OnErr result (folder_disk self.new name.now ≡ folder_disk self.old
+            name.now) }
     {
         self.begin()?;
         match take_out(&mut self.places, name) {
@@ -272,12 +290,14 @@ impl Folder for MemFolder {
 
     fn give(&mut self, name: &str, disk: MemDisk) -> Result<(), DiskError>
         requires out { folder_is_out self.old name.now ≡ true }
-        ensures here { folder_tells self.old ≡ true → folder_file self.new name.now ≡ mem_image disk }
+        ensures here { folder_tells self.old ≡ true → folder_file self.new name.now ≡ mem_image
+            disk }
         ensures count { folder_disk_faults self.new name.now ≡ mem_faults disk }
         ensures home { folder_is_out self.new name.now ≡ false }
         ensures others_out { SameBut name.now (folder_is_out self.old) (folder_is_out self.new) }
         ensures others { SameBut name.now (folder_file self.old) (folder_file self.new) }
-        ensures others_count { SameBut name.now (folder_disk_faults self.old) (folder_disk_faults self.new) }
+        ensures others_count { SameBut name.now (folder_disk_faults self.old)
+            (folder_disk_faults self.new) }
         ensures tells { folder_tells self.new ≡ folder_tells self.old }
         ensures cause { HasCause (folder_faults self.old) (folder_faults self.new) result }
         ensures crash { SameHistory (mem_moment disk) (folder_moment_of self.new name.now)

@@ -170,13 +170,17 @@ impl Disk for MemDisk {
     fn write_at(&mut self, at: u64, bytes: &[u8]) -> Result<(), DiskError>
         requires within { at ≤ length (mem_bytes self.old) }
         requires end { at + length bytes.now ≤ 2 ^ 40 }
-        ensures written { OnOk result (mem_image self.new ≡ option_map (put_at at bytes.now) (mem_image self.old)) }
+        ensures written { OnOk result (mem_image self.new ≡ option_map (put_at at bytes.now)
+            (mem_image self.old)) }
         ensures taken { mem_taken self.new ≡ mem_taken self.old }
         ensures exact { RunsByList (64 + length bytes.now) self.old self.new result }
-        ensures crash { Follows (Torn at (length bytes.now)) (MemMayLeave self.old) (MemMayLeave self.new) }
+        ensures crash { Follows (Torn at (length bytes.now)) (MemMayLeave self.old)
+            (MemMayLeave self.new) }
         ensures past { Writes at bytes.now (mem_past self.old) (mem_past self.new) }
-        ensures told_past { OnOk result (mem_past self.new ≡ with_write at bytes.now (mem_past self.old)) }
-        ensures done { OnOk result (TapeWrites at bytes.now (mem_tape self.old) (mem_tape self.new)) }
+        ensures told_past { OnOk result (mem_past self.new ≡ with_write at bytes.now
+            (mem_past self.old)) }
+        ensures done { OnOk result (TapeWrites at bytes.now (mem_tape self.old)
+            (mem_tape self.new)) }
     {
         self.begin(64 + bytes.len() as u64)?;
         self.tape.write(at, bytes);
@@ -198,8 +202,10 @@ impl Disk for MemDisk {
     fn sync(&mut self, hard: bool) -> Result<(), DiskError>
         ensures taken { mem_taken self.new ≡ mem_taken self.old }
         ensures exact { RunsByList 64 self.old self.new result }
-        ensures hard { hard ≡ true → OnOk result (TapeSyncs (mem_tape self.old) (mem_tape self.new)) }
-        ensures soft { hard ≡ false → OnOk result (TapeRests (mem_tape self.old) (mem_tape self.new)) }
+        ensures hard { hard ≡ true
+            → OnOk result (TapeSyncs (mem_tape self.old) (mem_tape self.new)) }
+        ensures soft { hard ≡ false
+            → OnOk result (TapeRests (mem_tape self.old) (mem_tape self.new)) }
     {
         self.begin(64)?;
         if hard {

@@ -16,7 +16,8 @@ pub struct Place<T> {
 /// The first place of a name.
 pub fn find<T>(places: &[Place<T>], name: &str) -> Option<usize>
     ensures none { IfNone result (held_at places.now name.now ≡ None) }
-    ensures place { MatchOption result (IsAbsent places.now name.now) (λ i. (i < length places.now) × IsNamed places.now i name.now) }
+    ensures place { MatchOption result (IsAbsent places.now name.now) (λ i. (i < length places.now)
+        × IsNamed places.now i name.now) }
 {
     for (i, place) in places.iter().enumerate() {
         if place.name.as_str() == name {
@@ -29,9 +30,12 @@ pub fn find<T>(places: &[Place<T>], name: &str) -> Option<usize>
 /// Puts another thing where a name's stood.
 pub fn exchange<T>(places: &mut [Place<T>], i: usize, held: T) -> T
     requires { i < length places.old }
-    ensures old { (name : List ℕ) → IsNamed places.old i name → held_at places.old name ≡ Some result }
-    ensures new { (name : List ℕ) → IsNamed places.old i name → held_at places.new name ≡ Some held }
-    ensures others { (name : List ℕ) → IsNamed places.old i name → SameBut name (held_at places.old) (held_at places.new) }
+    ensures old { (name : List ℕ) → IsNamed places.old i name → held_at places.old name
+        ≡ Some result }
+    ensures new { (name : List ℕ) → IsNamed places.old i name → held_at places.new name
+        ≡ Some held }
+    ensures others { (name : List ℕ) → IsNamed places.old i name → SameBut name (held_at places.old)
+        (held_at places.new) }
 {
     mem::replace(&mut places[i].held, held)
 }

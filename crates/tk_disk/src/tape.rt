@@ -210,7 +210,8 @@ impl Tape {
 
     /// The bytes after a crash now that kept so many of those written since the last hard sync, in their order.
     pub fn crash(&self, alloc: Global, keep: u64) -> Result<Vec<u8>, NoMemory>
-        ensures image { IfOk result (λ b. IsKeptImage keep self.now.first self.now.steps self.now.store b.items) }
+        ensures image { IfOk result (λ b. IsKeptImage keep self.now.first self.now.steps
+            self.now.store b.items) }
         ensures left { IfOk result (λ b. MayLeave self.now b.items) }
     {
         let mut file = Vec::with_capacity(alloc, self.first.len() + self.store.len())?;

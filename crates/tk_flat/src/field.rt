@@ -111,7 +111,8 @@ fn read_hex(bytes: &[u8]) -> Option<(u8, &[u8])>
 /// The byte that is written behind a backslash, and the rest.
 #[tactic(auto, unfolding(crate::specs::Escapes::unescaped))]
 fn read_escape(bytes: &[u8]) -> Option<(u8, &[u8])>
-    ensures found { IfSome result (λ r. after_backslash bytes.now ≡ followed r.0 (unescaped r.1.now)) }
+    ensures found { IfSome result (λ r. after_backslash bytes.now ≡ followed r.0
+        (unescaped r.1.now)) }
     ensures none { IfNone result (after_backslash bytes.now ≡ None) }
     ensures shorter { IfSome result (λ r. length r.1.now < length bytes.now) }
 {

@@ -58,8 +58,10 @@ fn read_records(alloc: Global, bytes: &[u8]) -> Result<PairList, TextError>
 pub fn read_flat(alloc: Global, bytes: &[u8]) -> Result<PairList, TextError>
     ensures read { IfOk result (λ pairs. IsFlatText bytes.now pairs) }
     ensures place { IfErr result (Names (IsFault bytes.now)) }
-    ensures accepted { (pairs : List Pair) → IsFlatText bytes.now pairs → Answers (Ok pairs) result }
-    ensures refused { (place : ℕ) → IsFault bytes.now place → Answers (Err (TextError.At place)) result }
+    ensures accepted { (pairs : List Pair) → IsFlatText bytes.now pairs
+        → Answers (Ok pairs) result }
+    ensures refused { (place : ℕ) → IsFault bytes.now place → Answers (Err (TextError.At place))
+        result }
 {
     read_records(alloc, bytes)
 }

@@ -19,7 +19,8 @@ const MAX_VALUE: usize = 16_777_215;
 pub fn next_line(bytes: &[u8]) -> (&[u8], &[u8])
     requires { 0 < length bytes.now }
     ensures line { lines_of bytes.now ≡ result.0.now ∷ lines_of result.1.now }
-    ensures parts { (bytes.now ≡ result.0.now ++ 10 ∷ result.1.now) ⊎ ((bytes.now ≡ result.0.now) × (result.1.now ≡ [])) }
+    ensures parts { (bytes.now ≡ result.0.now ++ 10 ∷ result.1.now) ⊎ ((bytes.now ≡ result.0.now)
+        × (result.1.now ≡ [])) }
     ensures shorter { length result.1.now < length bytes.now }
 {
     match cut(b'\n', bytes) {
@@ -74,7 +75,8 @@ pub fn read_tsv(alloc: Global, bytes: &[u8]) -> Result<PairList, TextError>
     ensures read { IfOk result (λ pairs. IsTsv bytes.now pairs) }
     ensures line { IfErr result (Names (IsFirstBadLine bytes.now)) }
     ensures accepted { (pairs : List Pair) → IsTsv bytes.now pairs → Answers (Ok pairs) result }
-    ensures refused { (line : ℕ) → IsFirstBadLine bytes.now line → Answers (Err (TextError.At line)) result }
+    ensures refused { (line : ℕ) → IsFirstBadLine bytes.now line → Answers (Err (TextError.At line))
+        result }
 {
     read_lines(alloc, bytes)
 }

@@ -23,7 +23,12 @@ impl Model for MemSource {
 
     ghost Value = { SourceState };
 
-    ghost view = { λ s. record { left = drop s.at s.bytes; failing = s.schedule.failing; calls = s.schedule.calls; faults = s.schedule.faults } };
+    ghost view = { λ s. record {
+      left = drop s.at s.bytes;
+      failing = s.schedule.failing;
+      calls = s.schedule.calls;
+      faults = s.schedule.faults;
+    } };
 
     ghost invariant = { λ s. s.at ≤ length s.bytes };
 }
@@ -64,8 +69,10 @@ impl Source for MemSource {
     /// Gives as many bytes as fit.
     fn read(&mut self, into: &mut [u8]) -> Result<usize, IoError>
         ensures bound { IfOk result (λ n. n ≤ length into.old) }
-        ensures bytes { IfOk result (λ n. Consumes (Some self.old.left) (Some self.new.left) (take n into.new)) }
-        ensures end { IfOk result (λ n. n ≡ 0 → 0 < length into.old → IsAtEnd (Some self.new.left)) }
+        ensures bytes { IfOk result (λ n. Consumes (Some self.old.left) (Some self.new.left)
+            (take n into.new)) }
+        ensures end { IfOk result (λ n. n ≡ 0 → 0 < length into.old
+            → IsAtEnd (Some self.new.left)) }
         ensures err { OnErr result (Keeps (Some self.old.left) (Some self.new.left)) }
         ensures cause { HasCause self.old.faults self.new.faults result }
         ensures exact { IsErrOf result IoError.Fault ↔ Contains self.old.failing self.old.calls }
@@ -94,7 +101,12 @@ impl Model for MemSink {
 
     ghost Value = { SinkState };
 
-    ghost view = { λ s. record { held = s.bytes; failing = s.schedule.failing; calls = s.schedule.calls; faults = s.schedule.faults } };
+    ghost view = { λ s. record {
+      held = s.bytes;
+      failing = s.schedule.failing;
+      calls = s.schedule.calls;
+      faults = s.schedule.faults;
+    } };
 }
 
 impl MemSink {
@@ -129,14 +141,17 @@ impl Sink for MemSink {
     /// A call that fails writes nothing.
     fn write_all(&mut self, bytes: &[u8]) -> Result<(), IoError>
         ensures ok { OnOk result (Appends (Some self.old.held) (Some self.new.held) bytes.now) }
-        ensures fault { IsErrOf result IoError.Fault → AppendsFront (Some self.old.held) (Some self.new.held) bytes.now }
-        ensures memory { IsErrOf result IoError.NoMemory → Keeps (Some self.old.held) (Some self.new.held) }
+        ensures fault { IsErrOf result IoError.Fault → AppendsFront (Some self.old.held)
+            (Some self.new.held) bytes.now }
+        ensures memory { IsErrOf result IoError.NoMemory → Keeps (Some self.old.held)
+            (Some self.new.held) }
         ensures cause { HasCause self.old.faults self.new.faults result }
         ensures exact { IsErrOf result IoError.Fault ↔ Contains self.old.failing self.old.calls }
         ensures unwritten { OnErr result (self.new.held ≡ self.old.held) }
         ensures calls { self.new.calls ≡ capped (self.old.calls + 1) }
         ensures failing { self.new.failing ≡ self.old.failing }
-        ensures raised { IsErrOf result IoError.Fault → self.new.faults ≡ capped (self.old.faults + 1) }
+        ensures raised { IsErrOf result IoError.Fault → self.new.faults ≡ capped
+            (self.old.faults + 1) }
     {
         begin(&mut self.schedule)?;
         if self.bytes.extend(bytes).is_err() {

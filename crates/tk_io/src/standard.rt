@@ -14,8 +14,10 @@ struct Refused;
 #[tactic(auto, using(crate::proofs::Known::Keeps_then, crate::proofs::Known::Keeps_Consumes, crate::proofs::Known::Keeps_same))]
 fn read_once<R: Read>(reader: &mut R, into: &mut [u8]) -> Result<usize, Refused>
     ensures bound { IfOk result (λ n. n ≤ length into.old) }
-    ensures bytes { IfOk result (λ n. Consumes (R.remaining reader.old) (R.remaining reader.new) (take n into.new)) }
-    ensures end { IfOk result (λ n. n ≡ 0 → 0 < length into.old → IsAtEnd (R.remaining reader.new)) }
+    ensures bytes { IfOk result (λ n. Consumes (R.remaining reader.old) (R.remaining reader.new)
+        (take n into.new)) }
+    ensures end { IfOk result (λ n. n ≡ 0 → 0 < length into.old
+        → IsAtEnd (R.remaining reader.new)) }
     ensures err { OnErr result (Keeps (R.remaining reader.old) (R.remaining reader.new)) }
 {
     for _ in 0..u64::MAX {
@@ -33,7 +35,8 @@ fn read_once<R: Read>(reader: &mut R, into: &mut [u8]) -> Result<usize, Refused>
 fn write_once<W: Write>(writer: &mut W, bytes: &[u8]) -> Result<usize, Refused>
     ensures bound { IfOk result (λ n. n ≤ length bytes.now) }
     ensures some { IfOk result (λ n. 0 < n) }
-    ensures ok { IfOk result (λ n. Appends (W.contents writer.old) (W.contents writer.new) (take n bytes.now)) }
+    ensures ok { IfOk result (λ n. Appends (W.contents writer.old) (W.contents writer.new)
+        (take n bytes.now)) }
     ensures err { OnErr result (Keeps (W.contents writer.old) (W.contents writer.new)) }
 {
     for _ in 0..u64::MAX {
@@ -50,7 +53,8 @@ fn write_once<W: Write>(writer: &mut W, bytes: &[u8]) -> Result<usize, Refused>
 #[tactic(auto, using(crate::proofs::Known::Appends_more, crate::proofs::Known::Appends_Keeps, crate::proofs::Known::Appends_none))]
 fn drain<W: Write>(writer: &mut W, bytes: &[u8]) -> Result<(), Refused>
     ensures ok { OnOk result (Appends (W.contents writer.old) (W.contents writer.new) bytes.now) }
-    ensures err { OnErr result (AppendsFront (W.contents writer.old) (W.contents writer.new) bytes.now) }
+    ensures err { OnErr result (AppendsFront (W.contents writer.old) (W.contents writer.new)
+        bytes.now) }
 {
     let mut done = 0;
     while done < bytes.len() {
@@ -62,7 +66,8 @@ fn drain<W: Write>(writer: &mut W, bytes: &[u8]) -> Result<(), Refused>
 #[tactic(auto, using(crate::proofs::Known::Appends_Keeps, crate::proofs::Known::Appends_front))]
 fn hand_over<W: Write>(writer: &mut W, bytes: &[u8]) -> Result<(), Refused>
     ensures ok { OnOk result (Appends (W.contents writer.old) (W.contents writer.new) bytes.now) }
-    ensures err { OnErr result (AppendsFront (W.contents writer.old) (W.contents writer.new) bytes.now) }
+    ensures err { OnErr result (AppendsFront (W.contents writer.old) (W.contents writer.new)
+        bytes.now) }
 {
     drain(writer, bytes)?;
     if writer.flush().is_err() {
@@ -108,8 +113,10 @@ impl<R: Read> Source for StdSource<R> {
 
     fn read(&mut self, into: &mut [u8]) -> Result<usize, IoError>
         ensures bound { IfOk result (λ n. n ≤ length into.old) }
-        ensures bytes { IfOk result (λ n. Consumes (R.remaining self.old.0) (R.remaining self.new.0) (take n into.new)) }
-        ensures end { IfOk result (λ n. n ≡ 0 → 0 < length into.old → IsAtEnd (R.remaining self.new.0)) }
+        ensures bytes { IfOk result (λ n. Consumes (R.remaining self.old.0) (R.remaining self.new.0)
+            (take n into.new)) }
+        ensures end { IfOk result (λ n. n ≡ 0 → 0 < length into.old
+            → IsAtEnd (R.remaining self.new.0)) }
         ensures err { OnErr result (Keeps (R.remaining self.old.0) (R.remaining self.new.0)) }
         ensures cause { HasCause self.old.1 self.new.1 result }
         ensures memory { IsErrOf result IoError.NoMemory → ⊥ }
@@ -160,8 +167,10 @@ impl<W: Write> Sink for StdSink<W> {
     }
 
     fn write_all(&mut self, bytes: &[u8]) -> Result<(), IoError>
-        ensures ok { OnOk result (Appends (W.contents self.old.0) (W.contents self.new.0) bytes.now) }
-        ensures fault { OnErr result (AppendsFront (W.contents self.old.0) (W.contents self.new.0) bytes.now) }
+        ensures ok { OnOk result (Appends (W.contents self.old.0) (W.contents self.new.0)
+            bytes.now) }
+        ensures fault { OnErr result (AppendsFront (W.contents self.old.0) (W.contents self.new.0)
+            bytes.now) }
         ensures cause { HasCause self.old.1 self.new.1 result }
         ensures memory { IsErrOf result IoError.NoMemory → ⊥ }
     {

@@ -28,7 +28,8 @@ pub trait Source {
     /// Of the slice behind the bytes that were given nothing is said.
     fn read(&mut self, into: &mut [u8]) -> Result<usize, IoError>
         ensures bound { IfOk result (λ n. n ≤ length into.old) }
-        ensures bytes { IfOk result (λ n. Consumes (left self.old) (left self.new) (take n into.new)) }
+        ensures bytes { IfOk result (λ n. Consumes (left self.old) (left self.new)
+            (take n into.new)) }
         ensures end { IfOk result (λ n. n ≡ 0 → 0 < length into.old → IsAtEnd (left self.new)) }
         ensures err { OnErr result (Keeps (left self.old) (left self.new)) }
         ensures cause { HasCause (fault_count self.old) (fault_count self.new) result };
@@ -47,7 +48,8 @@ pub trait Sink {
 
     fn write_all(&mut self, bytes: &[u8]) -> Result<(), IoError>
         ensures ok { OnOk result (Appends (held self.old) (held self.new) bytes.now) }
-        ensures fault { IsErrOf result IoError.Fault → AppendsFront (held self.old) (held self.new) bytes.now }
+        ensures fault { IsErrOf result IoError.Fault → AppendsFront (held self.old) (held self.new)
+            bytes.now }
         ensures memory { IsErrOf result IoError.NoMemory → Keeps (held self.old) (held self.new) }
         ensures cause { HasCause (fault_count self.old) (fault_count self.new) result };
 }

@@ -91,7 +91,8 @@ impl<S: SeqStore> LockTable<S> {
             (its self.now) i (view pass.old).caller home }
         requires count { noted i (view pass.old).counts ≤ S.fault_count home.store }
         requires next { home.broken ≡ None
-            → next_fits S.store_view (its self.now) home.store (length (view pass.old).caller.base) }
+            → next_fits S.store_view (its self.now) home.store
+            (length (view pass.old).caller.base) }
         ensures own { IsPassOf self.now pass.new }
         ensures step { GaveStore S.fault_count (its self.now).frame i (view pass.old) home
             (view pass.new) }

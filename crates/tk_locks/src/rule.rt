@@ -12,7 +12,8 @@ impl<S: SeqStore> TableRule<Option<Home<S>>, Seen, Origin<S>> for Law {
     ghost use Rattle.tk_locks.specs.Rule.{Rule, ground_of};
     ghost use Rattle.tk_locks.specs.View.{first_view};
 
-    ghost holds = { λ o s. Rule S.lawful S.stands S.store_view S.constants S.fault_count (ground_of o) s };
+    ghost holds = { λ o s. Rule S.lawful S.stands S.store_view S.constants S.fault_count
+        (ground_of o) s };
 
     ghost first = { λ _. first_view };
 }
@@ -28,7 +29,10 @@ impl<S> Told<S> for Brand {
     ghost use Rattle.std.specs.Prelude.{[]};
     ghost use Rattle.tk_model.specs.declared.record.Order.TheVariants.{Hash};
 
-    ghost ground = { record { frame = record { stripes = 0; stores = 0; order = Hash; base = 0 }; start = [] } };
+    ghost ground = { record {
+      frame = record { stripes = 0; stores = 0; order = Hash; base = 0 };
+      start = [];
+    } };
 }
 
 /// What a call means: the entry that it makes.
@@ -77,7 +81,8 @@ impl<S: SeqStore, J: Told<S>> Play<Option<Home<S>>, Seen> for Take<J> {
     ghost use Rattle.tk_locks.specs.Rule.{records_in};
     ghost use Rattle.tk_locks.specs.Steps.{taken};
 
-    ghost then = { taken J.ground.frame (λ m. S.lawful m ≡ true) (records_in J.ground.frame.order S.store_view J.ground.start) };
+    ghost then = { taken J.ground.frame (λ m. S.lawful m ≡ true)
+        (records_in J.ground.frame.order S.store_view J.ground.start) };
 }
 
 pub struct TakeStore<J> {
@@ -89,7 +94,10 @@ impl<S: SeqStore, J: Told<S>> Play<Option<Home<S>>, Seen> for TakeStore<J> {
     ghost use Rattle.tk_locks.specs.Rule.{records_in, good_of, next_fits, count_at};
     ghost use Rattle.tk_locks.specs.Steps.{taken_store};
 
-    ghost then = { taken_store J.ground.frame (λ m. S.lawful m ≡ true) (records_in J.ground.frame.order S.store_view J.ground.start) (good_of S.stands S.store_view S.constants J.ground) (next_fits S.store_view J.ground) S.fault_count (count_at S.fault_count J.ground.start) };
+    ghost then = { taken_store J.ground.frame (λ m. S.lawful m ≡ true)
+        (records_in J.ground.frame.order S.store_view J.ground.start)
+        (good_of S.stands S.store_view S.constants J.ground) (next_fits S.store_view J.ground)
+        S.fault_count (count_at S.fault_count J.ground.start) };
 }
 
 /// Gives the empty slot back, under its lock.
@@ -133,7 +141,8 @@ impl<S: SeqStore, J: Told<S>, K: Said> Play<Option<Home<S>>, Seen> for Commit<J,
     ghost use Rattle.tk_locks.specs.Rule.{records_in};
     ghost use Rattle.tk_locks.specs.Steps.{made};
 
-    ghost then = { made J.ground.frame (λ m. S.lawful m ≡ true) (records_in J.ground.frame.order S.store_view J.ground.start) K.entry };
+    ghost then = { made J.ground.frame (λ m. S.lawful m ≡ true)
+        (records_in J.ground.frame.order S.store_view J.ground.start) K.entry };
 }
 
 /// Gives the lock of a stripe.
@@ -154,7 +163,8 @@ impl<S: SeqStore, J: Told<S>> Play<Option<Home<S>>, Seen> for Look<J> {
     ghost use Rattle.tk_locks.specs.Rule.{records_in};
     ghost use Rattle.tk_locks.specs.Steps.{seen};
 
-    ghost then = { seen J.ground.frame (λ m. S.lawful m ≡ true) (records_in J.ground.frame.order S.store_view J.ground.start) };
+    ghost then = { seen J.ground.frame (λ m. S.lawful m ≡ true)
+        (records_in J.ground.frame.order S.store_view J.ground.start) };
 }
 
 /// After a join: both histories that were seen begin the longer one.

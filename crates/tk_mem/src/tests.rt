@@ -35,7 +35,8 @@ fn add_put(
     key: &[u8],
     value: &[u8],
 ) -> Result<(), NoMemory>
-    ensures { OnOk result (changes.new ≡ changes.old ++ Put (record { key = key.now; value = value.now }) ∷ []) }
+    ensures { OnOk result (changes.new ≡ changes.old ++ Put
+        (record { key = key.now; value = value.now }) ∷ []) }
 {
     let key = Bytes::from_slice(alloc, key)?;
     let value = Bytes::from_slice(alloc, value)?;

@@ -30,7 +30,11 @@ impl Model for TinyMap {
 
     ghost Value = { TinyView };
 
-    ghost view = { λ t. record { pairs = undone t.undo.items t.table; table = t.table; clears = t.clears } };
+    ghost view = { λ t. record {
+      pairs = undone t.undo.items t.table;
+      table = t.table;
+      clears = t.clears;
+    } };
 
     ghost invariant = { λ t. IsCounted t.undo.items t.table t.count t.size };
 }

@@ -80,7 +80,8 @@ impl Bytes {
     /// Writes bytes over those that stand from a place on.
     pub fn write_at(&mut self, at: usize, bytes: &[u8])
         requires { at + length bytes.now ≤ length self.old }
-        ensures { self.new ≡ take at self.old ++ (bytes.now ++ drop (at + length bytes.now) self.old) }
+        ensures { self.new ≡ take at self.old ++ (bytes.now ++ drop (at + length bytes.now)
+            self.old) }
     {
         self.items[at..at + bytes.len()].copy_from_slice(bytes);
     }

@@ -22,7 +22,8 @@ pub fn place_of(pairs: &[Pair], key: &[u8]) -> Option<usize>
 
 /// The place of a key's record, or else the place where it belongs.
 pub fn place_to_put(pairs: &[Pair], order: &Order, key: &[u8]) -> Result<usize, usize>
-    ensures { MatchResult result (GoesAt order.now key.now pairs.now) (GoesBefore order.now key.now pairs.now) }
+    ensures { MatchResult result (GoesAt order.now key.now pairs.now)
+        (GoesBefore order.now key.now pairs.now) }
 {
     for i in 0..pairs.len() {
         match compare_keys(order, key, pairs[i].key.as_slice()) {

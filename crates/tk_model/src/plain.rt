@@ -131,7 +131,8 @@ fn after_proc(
     order: &Order,
     touches: &[Touch],
 ) -> Result<Option<PairList>, NoMemory>
-    ensures { IfOk result (λ after. after ≡ (if all_were order.now touches.now pairs.now && list_all fits touches.now then Some (all_touched order.now touches.now pairs.now) else None)) }
+    ensures { IfOk result (λ after. after ≡ (if all_were order.now touches.now pairs.now && list_all
+        fits touches.now then Some (all_touched order.now touches.now pairs.now) else None)) }
 {
     let mut after = pairs.clone()?;
     for touch in touches {
@@ -175,7 +176,8 @@ impl PlainMap {
 
     /// Makes one change.
     pub fn apply(&mut self, change: &Change) -> Result<(), NoMemory>
-        ensures after { OnOk result (self.new.pairs ≡ after_one self.old.order change.now self.old.pairs) }
+        ensures after { OnOk result (self.new.pairs ≡ after_one self.old.order change.now
+            self.old.pairs) }
         ensures order { self.new.order ≡ self.old.order }
         ensures err { OnErr result (self.new ≡ self.old) }
     {
@@ -189,8 +191,10 @@ impl PlainMap {
 
     /// Makes one call, and answers whether it is legal on these records. One that isn't changes nothing.
     pub fn run(&mut self, entry: &Entry) -> Result<bool, NoMemory>
-        ensures legal { IfOk result (λ done. done ≡ is_legal self.old.order self.old.pairs entry.now) }
-        ensures after { OnOk result (self.new.pairs ≡ unwrap_or (step self.old.order self.old.pairs entry.now) self.old.pairs) }
+        ensures legal { IfOk result (λ done. done ≡ is_legal self.old.order self.old.pairs
+            entry.now) }
+        ensures after { OnOk result (self.new.pairs ≡ unwrap_or (step self.old.order self.old.pairs entry.now)
+            self.old.pairs) }
         ensures order { self.new.order ≡ self.old.order }
         ensures err { OnErr result (self.new ≡ self.old) }
     {
@@ -213,8 +217,10 @@ impl PlainMap {
     }
 
     fn run_proc(&mut self, touches: &[Touch]) -> Result<bool, NoMemory>
-        ensures legal { IfOk result (λ done. done ≡ (all_were self.old.order touches.now self.old.pairs && list_all fits touches.now)) }
-        ensures after { IfOk result (λ done. self.new.pairs ≡ (if done then all_touched self.old.order touches.now self.old.pairs else self.old.pairs)) }
+        ensures legal { IfOk result (λ done. done ≡ (all_were self.old.order touches.now self.old.pairs &&
+            list_all fits touches.now)) }
+        ensures after { IfOk result (λ done. self.new.pairs ≡ (if done then all_touched self.old.order
+            touches.now self.old.pairs else self.old.pairs)) }
         ensures order { self.new.order ≡ self.old.order }
         ensures err { OnErr result (self.new ≡ self.old) }
     {
@@ -232,8 +238,11 @@ impl PlainMap {
 
     /// A call at one key, which copies no other record.
     fn run_touch(&mut self, touch: &Touch) -> Result<bool, NoMemory>
-        ensures legal { IfOk result (λ done. done ≡ (same_value touch.now.was (find touch.now.key self.old.pairs) && fits touch.now)) }
-        ensures after { IfOk result (λ done. self.new.pairs ≡ (if done then touched self.old.order touch.now.key touch.now.action self.old.pairs else self.old.pairs)) }
+        ensures legal { IfOk result
+            (λ done. done ≡ (same_value touch.now.was (find touch.now.key self.old.pairs) && fits
+            touch.now)) }
+        ensures after { IfOk result (λ done. self.new.pairs ≡ (if done then touched self.old.order
+            touch.now.key touch.now.action self.old.pairs else self.old.pairs)) }
         ensures order { self.new.order ≡ self.old.order }
         ensures err { OnErr result (self.new ≡ self.old) }
     {
@@ -251,8 +260,10 @@ impl PlainMap {
         found: &Option<Pair>,
         action: &Action,
     ) -> Result<bool, NoMemory>
-        ensures legal { IfOk result (λ done. done ≡ is_legal self.old.order self.old.pairs (Next way bound.now found.now action.now)) }
-        ensures after { IfOk result (λ done. self.new.pairs ≡ (if done then after_entry self.old.order (Next way bound.now found.now action.now) self.old.pairs else self.old.pairs)) }
+        ensures legal { IfOk result (λ done. done ≡ is_legal self.old.order self.old.pairs
+            (Next way bound.now found.now action.now)) }
+        ensures after { IfOk result (λ done. self.new.pairs ≡ (if done then after_entry self.old.order
+            (Next way bound.now found.now action.now) self.old.pairs else self.old.pairs)) }
         ensures order { self.new.order ≡ self.old.order }
         ensures err { OnErr result (self.new ≡ self.old) }
     {
@@ -273,8 +284,10 @@ impl PlainMap {
     }
 
     fn run_each(&mut self, touches: &[Touch]) -> Result<bool, NoMemory>
-        ensures legal { IfOk result (λ done. done ≡ (are_all touches.now self.old.pairs && list_all fits touches.now)) }
-        ensures after { IfOk result (λ done. self.new.pairs ≡ (if done then all_touched self.old.order touches.now self.old.pairs else self.old.pairs)) }
+        ensures legal { IfOk result (λ done. done ≡ (are_all touches.now self.old.pairs && list_all fits
+            touches.now)) }
+        ensures after { IfOk result (λ done. self.new.pairs ≡ (if done then all_touched self.old.order
+            touches.now self.old.pairs else self.old.pairs)) }
         ensures order { self.new.order ≡ self.old.order }
         ensures err { OnErr result (self.new ≡ self.old) }
     {

@@ -19,7 +19,11 @@ impl<T> Model for ReservedList<T> {
 
     ghost coded = { room_code T.code };
 
-    ghost view = { λ l. record { items = l.items.items; room = vec_capacity l.items - vec_len l.items } };
+    ghost view = { λ l. record {
+      items = l.items.items;
+      room = vec_capacity l.items - vec_len
+          l.items;
+    } };
 }
 
 pub type ReservedBytes = ReservedList<u8>;

@@ -48,7 +48,8 @@ impl FaultSchedule {
     pub fn count(&mut self, failed: bool)
         ensures failing { self.new.failing ≡ self.old.failing }
         ensures calls { self.new.calls ≡ capped (self.old.calls + 1) }
-        ensures faults { self.new.faults ≡ (if failed then capped (self.old.faults + 1) else self.old.faults) }
+        ensures faults { self.new.faults ≡ (if failed then capped (self.old.faults + 1)
+            else self.old.faults) }
         ensures later { self.old.faults ≤ self.new.faults }
     {
         self.calls = self.calls.saturating_add(1);

@@ -38,7 +38,8 @@ fn front_record(bytes: &[u8]) -> Option<RecordHere<'_>>
 pub fn record_here(bytes: &[u8]) -> Option<RecordHere<'_>>
     ensures value { option_map pair_here result ≡ record_at bytes.now }
     ensures found { IfSome result (λ r. BeginsWith bytes.now (pair_here r) r.rest.now) }
-    ensures again { (p : Pair) (rest : List ℕ) → BeginsWith bytes.now p rest → option_map pair_here result ≡ Some p }
+    ensures again { (p : Pair) (rest : List ℕ) → BeginsWith bytes.now p rest
+        → option_map pair_here result ≡ Some p }
 {
     front_record(bytes)
 }

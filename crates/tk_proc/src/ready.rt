@@ -148,7 +148,8 @@ impl Adder {
 
     /// The answer of the last call.
     pub fn status(&self) -> Status
-        ensures { (was : Option (List ℕ)) → is_some was ≡ self.now.found → result ≡ (set_reply self.now.value false was).status }
+        ensures { (was : Option (List ℕ)) → is_some was ≡ self.now.found
+            → result ≡ (set_reply self.now.value false was).status }
     {
         if self.there {
             Status::Duplication
@@ -198,7 +199,8 @@ impl Remover {
 
     /// The answer of the last call.
     pub fn status(&self) -> Status
-        ensures { (was : Option (List ℕ)) → is_some was ≡ self.now → result ≡ (remove_reply was).status }
+        ensures { (was : Option (List ℕ)) → is_some was ≡ self.now
+            → result ≡ (remove_reply was).status }
     {
         if self.found {
             Status::Success

@@ -104,7 +104,8 @@ fn place_of(pairs: &[HashedPair], hash: u64, key: &[u8]) -> Option<usize>
 /// The place of a key's record, or else the place where it belongs.
 fn place_to_put(pairs: &[HashedPair], hash: u64, key: &[u8]) -> Result<usize, usize>
     requires { hash ≡ mix_of key.now }
-    ensures { MatchResult result (GoesAt Hash key.now pairs.now) (GoesBefore Hash key.now pairs.now) }
+    ensures { MatchResult result (GoesAt Hash key.now pairs.now)
+        (GoesBefore Hash key.now pairs.now) }
 {
     for i in 0..pairs.len() {
         match pairs[i].compare(hash, key) {

@@ -25,7 +25,8 @@ fn changes_of(
     action: Action,
 ) -> Result<ChangeList, NoMemory>
     requires { length key.now ≤ 65535 }
-    ensures net { IfOk result (λ cs. cs ≡ action_changes key.now (option_copied was.entry) (unless_long action)) }
+    ensures net { IfOk result (λ cs. cs ≡ action_changes key.now (option_copied was.entry)
+        (unless_long action)) }
     ensures fit { IfOk result (AllFitWithin 16777215) }
     ensures alone { IfOk result IsClearAlone }
 {
@@ -68,21 +69,33 @@ fn put_changes<S: SeqStore>(
     requires open { (S.store_view store.old).closed ≡ false }
     requires alone { IsClearAlone changes.now }
     requires fit { AllFitWithin 16777215 changes.now }
-    requires may { (changes.now ≡ []) ⊎ (((S.constants store.old).writable ≡ true) × ((S.store_view store.old).floor ≤ number)) }
-    ensures map { OnOk result ((S.store_view store.new).map ≡ option_map (after (S.constants store.old).order changes.now) (S.store_view store.old).map) }
-    ensures floor { OnOk result ((S.store_view store.new).floor ≡ floor_after (S.store_view store.old).floor (group_of number changes.now)) }
-    ensures next { UnlessFault result ((S.store_view store.new).floor ≤ max (S.store_view store.old).floor (number + 1)) }
+    requires may { (changes.now ≡ []) ⊎ (((S.constants store.old).writable ≡ true)
+        × ((S.store_view store.old).floor ≤ number)) }
+    ensures map { OnOk result ((S.store_view store.new).map ≡ option_map
+        (after (S.constants store.old).order changes.now) (S.store_view store.old).map) }
+    ensures floor { OnOk result ((S.store_view store.new).floor ≡ floor_after
+        (S.store_view store.old).floor (group_of number changes.now)) }
+    ensures next { UnlessFault result ((S.store_view store.new).floor ≤ max
+        (S.store_view store.old).floor (number + 1)) }
     ensures size { (v : ℕ) → (S.constants store.old).extents ≡ Some v
-        → OnOk result ((S.store_view store.new).size ≡ (S.store_view store.old).size + sum_by (extent_of v) changes.now) }
-    ensures stands { (first : First) (since : List Group) (hard : ℕ) → S.stands store.old first since hard
+        → OnOk result ((S.store_view store.new).size ≡ (S.store_view store.old).size + sum_by
+        (extent_of v) changes.now) }
+    ensures stands { (first : First) (since : List Group) (hard : ℕ)
+        → S.stands store.old first since hard
         → OnOk result (S.stands store.new first (since ++ group_of number changes.now) hard) }
-    ensures since { (t n : ℕ) (first : First) (since : List Group) (hard : ℕ) → S.kept_since store.old t n first since hard
-        → OnOk result (S.kept_since store.new t n first (since ++ group_of number changes.now) hard) }
-    ensures safe { LeavesSafe S.kept_since S.safe (group_of number changes.now) store.old store.new }
+    ensures since { (t n : ℕ) (first : First) (since : List Group) (hard : ℕ)
+        → S.kept_since store.old t n first since hard
+        → OnOk result (S.kept_since store.new t n first (since ++ group_of number changes.now)
+        hard) }
+    ensures safe { LeavesSafe S.kept_since S.safe (group_of number changes.now) store.old
+        store.new }
     ensures told { is_some (S.store_view store.new).map ≡ is_some (S.store_view store.old).map }
-    ensures full { TellsFullOfChanges (S.constants store.old) (S.store_view store.old) changes.now result }
+    ensures full { TellsFullOfChanges (S.constants store.old) (S.store_view store.old) changes.now
+        result }
     ensures whole { UnlessFault result (IsWhole S.stands store.new) }
-    ensures refused { OnErr result (UnlessFault result (Keeps S.stands store.old store.new × KeepsSince S.kept_since store.old store.new × SameContents (S.store_view store.old) (S.store_view store.new))) }
+    ensures refused { OnErr result (UnlessFault result (Keeps S.stands store.old store.new
+        × KeepsSince S.kept_since store.old store.new × SameContents (S.store_view store.old)
+        (S.store_view store.new))) }
     ensures unchanged { OnFull result (S.store_view store.new ≡ S.store_view store.old) }
     ensures same { changes.now ≡ [] → store.new ≡ store.old }
     ensures constants { S.constants store.new ≡ S.constants store.old }
@@ -109,26 +122,46 @@ pub fn run_on<S: SeqStore, P: RecordProcessor>(
     requires whole { IsWhole S.stands store.old }
     requires open { (S.store_view store.old).closed ≡ false }
     requires key { length key.now ≤ 65535 }
-    requires may { ((was : Option (List ℕ)) → P.acts p.old key.now was ≡ Keep) ⊎ (((S.constants store.old).writable ≡ true) × ((S.store_view store.old).floor ≤ number)) }
-    ensures status { IfSome (S.store_view store.old).map (λ m. IfOk result (λ s. s ≡ status_unless_long (P.acts p.old key.now (find key.now m)))) }
-    ensures turned { IfSome (S.store_view store.old).map (λ m. TurnsTo result p.old (P.turns p.old key.now (find key.now m)) p.new) }
-    ensures map { IfSome (S.store_view store.old).map (λ m. OnOk result ((S.store_view store.new).map ≡ Some (touched (S.constants store.old).order key.now (unless_long (P.acts p.old key.now (find key.now m))) m))) }
+    requires may { ((was : Option (List ℕ)) → P.acts p.old key.now was ≡ Keep)
+        ⊎ (((S.constants store.old).writable ≡ true) × ((S.store_view store.old).floor ≤ number)) }
+    ensures status { IfSome (S.store_view store.old).map
+        (λ m. IfOk result (λ s. s ≡ status_unless_long (P.acts p.old key.now (find key.now m)))) }
+    ensures turned { IfSome (S.store_view store.old).map (λ m. TurnsTo result p.old
+        (P.turns p.old key.now (find key.now m)) p.new) }
+    ensures map { IfSome (S.store_view store.old).map
+        (λ m. OnOk result ((S.store_view store.new).map ≡ Some
+        (touched (S.constants store.old).order key.now
+        (unless_long (P.acts p.old key.now (find key.now m))) m))) }
     ensures floor { IfSome (S.store_view store.old).map (λ m.
         OnOk result ((S.store_view store.new).floor ≡ floor_after (S.store_view store.old).floor (group_of number (call_changes P.acts p.old key.now m)))) }
-    ensures next { UnlessFault result ((S.store_view store.new).floor ≤ max (S.store_view store.old).floor (number + 1)) }
-    ensures size { IfSome (S.store_view store.old).map (λ m. (v : ℕ) → (S.constants store.old).extents ≡ Some v
-        → OnOk result ((S.store_view store.new).size ≡ (S.store_view store.old).size + sum_by (extent_of v) (call_changes P.acts p.old key.now m))) }
-    ensures stands { IfSome (S.store_view store.old).map (λ m. (first : First) (since : List Group) (hard : ℕ) → S.stands store.old first since hard
-        → OnOk result (S.stands store.new first (since ++ group_of number (call_changes P.acts p.old key.now m)) hard)) }
-    ensures since { IfSome (S.store_view store.old).map (λ m. (t n : ℕ) (first : First) (since : List Group) (hard : ℕ) → S.kept_since store.old t n first since hard
-        → OnOk result (S.kept_since store.new t n first (since ++ group_of number (call_changes P.acts p.old key.now m)) hard)) }
-    ensures safe { IfSome (S.store_view store.old).map (λ m. LeavesSafe S.kept_since S.safe (group_of number (call_changes P.acts p.old key.now m)) store.old store.new) }
+    ensures next { UnlessFault result ((S.store_view store.new).floor ≤ max
+        (S.store_view store.old).floor (number + 1)) }
+    ensures size { IfSome (S.store_view store.old).map (λ m. (v : ℕ)
+        → (S.constants store.old).extents ≡ Some v
+        → OnOk result ((S.store_view store.new).size ≡ (S.store_view store.old).size + sum_by
+        (extent_of v) (call_changes P.acts p.old key.now m))) }
+    ensures stands { IfSome (S.store_view store.old).map (λ m. (first : First) (since : List Group)
+        (hard : ℕ) → S.stands store.old first since hard
+        → OnOk result
+        (S.stands store.new first (since ++ group_of number (call_changes P.acts p.old key.now m))
+        hard)) }
+    ensures since { IfSome (S.store_view store.old).map (λ m. (t n : ℕ) (first : First)
+        (since : List Group) (hard : ℕ) → S.kept_since store.old t n first since hard
+        → OnOk result (S.kept_since store.new t n first
+        (since ++ group_of number (call_changes P.acts p.old key.now m)) hard)) }
+    ensures safe { IfSome (S.store_view store.old).map (λ m. LeavesSafe S.kept_since S.safe
+        (group_of number (call_changes P.acts p.old key.now m)) store.old store.new) }
     ensures told { is_some (S.store_view store.new).map ≡ is_some (S.store_view store.old).map }
-    ensures full { IfSome (S.store_view store.old).map (λ m. TellsFullOfChanges (S.constants store.old) (S.store_view store.old) (call_changes P.acts p.old key.now m) result) }
+    ensures full { IfSome (S.store_view store.old).map
+        (λ m. TellsFullOfChanges (S.constants store.old) (S.store_view store.old)
+        (call_changes P.acts p.old key.now m) result) }
     ensures whole { UnlessFault result (IsWhole S.stands store.new) }
-    ensures refused { OnErr result (UnlessFault result (Keeps S.stands store.old store.new × KeepsSince S.kept_since store.old store.new × SameContents (S.store_view store.old) (S.store_view store.new))) }
+    ensures refused { OnErr result (UnlessFault result (Keeps S.stands store.old store.new
+        × KeepsSince S.kept_since store.old store.new × SameContents (S.store_view store.old)
+        (S.store_view store.new))) }
     ensures unchanged { OnFull result (S.store_view store.new ≡ S.store_view store.old) }
-    ensures looks { IfSome (S.store_view store.old).map (λ m. call_changes P.acts p.old key.now m ≡ [] →
+    ensures looks { IfSome (S.store_view store.old).map (λ m. call_changes P.acts p.old key.now m
+        ≡ [] →
         OnlyLooks S.constants S.store_view S.stands S.kept_since S.untouched S.moment S.taken_count store.old store.new) }
     ensures reads { (S.constants store.old).writable ≡ false → S.untouched store.old store.new }
     ensures constants { S.constants store.new ≡ S.constants store.old }

@@ -26,7 +26,8 @@ fn set_on<S: SeqStore>(
     requires key { length key.now ≤ 65535 }
     requires writable { (S.constants store.old).writable ≡ true }
     requires number { (S.store_view store.old).floor ≤ number }
-    ensures { IfSome (S.store_view store.old).map (λ m. IfOk result (λ s. s ≡ reply_status (set_reply value true (find key.now m)))) }
+    ensures { IfSome (S.store_view store.old).map
+        (λ m. IfOk result (λ s. s ≡ reply_status (set_reply value true (find key.now m)))) }
 {
     let mut setter = Setter::new(value);
     match run_on(alloc, store, number, key, &mut setter)? {
@@ -48,7 +49,8 @@ fn add_on<S: SeqStore>(
     requires key { length key.now ≤ 65535 }
     requires writable { (S.constants store.old).writable ≡ true }
     requires number { (S.store_view store.old).floor ≤ number }
-    ensures { IfSome (S.store_view store.old).map (λ m. IfOk result (λ s. s ≡ reply_status (set_reply value false (find key.now m)))) }
+    ensures { IfSome (S.store_view store.old).map
+        (λ m. IfOk result (λ s. s ≡ reply_status (set_reply value false (find key.now m)))) }
 {
     let mut adder = Adder::new(value);
     match run_on(alloc, store, number, key, &mut adder)? {
@@ -69,7 +71,8 @@ fn remove_on<S: SeqStore>(
     requires key { length key.now ≤ 65535 }
     requires writable { (S.constants store.old).writable ≡ true }
     requires number { (S.store_view store.old).floor ≤ number }
-    ensures { IfSome (S.store_view store.old).map (λ m. IfOk result (λ s. s ≡ reply_status (remove_reply (find key.now m)))) }
+    ensures { IfSome (S.store_view store.old).map
+        (λ m. IfOk result (λ s. s ≡ reply_status (remove_reply (find key.now m)))) }
 {
     let mut remover = Remover::new();
     match run_on(alloc, store, number, key, &mut remover)? {
@@ -88,8 +91,10 @@ fn get_on<S: SeqStore>(
     requires whole { IsWhole S.stands store.old }
     requires open { (S.store_view store.old).closed ≡ false }
     requires key { length key.now ≤ 65535 }
-    ensures status { IfSome (S.store_view store.old).map (λ m. IfOk result (λ r. r.0 ≡ reply_status (get_reply (find key.now m)))) }
-    ensures value { IfSome (S.store_view store.old).map (λ m. IfOk result (λ r. r.1 ≡ find key.now m)) }
+    ensures status { IfSome (S.store_view store.old).map
+        (λ m. IfOk result (λ r. r.0 ≡ reply_status (get_reply (find key.now m)))) }
+    ensures value { IfSome (S.store_view store.old).map
+        (λ m. IfOk result (λ r. r.1 ≡ find key.now m)) }
 {
     let mut getter = Getter::new(alloc);
     let status = match run_on(alloc, store, 0, key, &mut getter)? {
