@@ -83,7 +83,7 @@ module _ {T : Type 0} (law : List Pair → Bool) (stands : T → First → List 
       count = ap (λ l. get_or l 0 0) is ∙ all_same (f.stripes + f.stores + 1) 0 0;
       flags = λ l _. ap (λ w. get_or w (l + 1) 0) is ∙ all_same (f.stripes + f.stores + 1) (l + 1) 0;
       home = λ i low _. let x = there xs i (let z = fresh.long in omega arith) in let y = fresh.there i x.0 x.1 in
-          (y.0, at_map some xs i x.0 x.1 ∙ ap (λ (z : Option (Home T)). some (some z)) y.1, y.2, (let z = counted xs i y.0 (x.1 ∙ ap some y.1) in omega arith), λ _. (let z = y.4 in omega arith));
+          (y.0, at_map some xs i x.0 x.1 ∙ ap (λ (z : Option (Home T)). some (some z)) y.1, y.2, (let z = counted xs i y.0 (x.1 ∙ ap some y.1) in omega arith), λ _ w. (let z = y.4 w in omega arith));
       out = λ i low a. absurd (cc (a));
     };
     since = λ i. omega arith;
