@@ -1,5 +1,5 @@
 -- Facts on counts, marks and lists.
-use Rattle.std.proofs.Common.{◌≡◌, ◌≢◌, ℕ, zero, suc, ◌≤◌, cond, List, [], ◌∷◌, ◌++◌, length, map, take, Option, refl, sym, ap, subst, arith}
+use Rattle.std.proofs.Common.{◌≡◌, ◌≢◌, ℕ, zero, suc, ◌≤◌, cond, List, [], ◌∷◌, ◌++◌, length, map, take, get_or, Option, refl, sym, ap, subst, arith}
 use mathlib.Core.List.{IsPrefix}
 use mathlib.Core.Option.{some, some-injective, some-ne-none}
 use lib.ListN.{get_elem?}
@@ -60,3 +60,13 @@ marked_head i b ms = by_test i i (λ t. cond t b (marked i ms) ≡ b) (λ _. ref
 
 pub marked_tail : (i q : ℕ) (b : Option ℕ) (ms : List (ℕ × Option ℕ)) → q ≢ i → marked q ((i, b) ∷ ms) ≡ marked q ms
 marked_tail i q b ms other = by_test q i (λ t. cond t b (marked q ms) ≡ marked q ms) (λ e. absurd (other e)) (λ _. refl)
+
+pub got : {A : Type 0} (xs : List A) (i : ℕ) (x d : A) → get_elem? xs i ≡ some x → get_or xs i d ≡ x
+got [] i x d e = absurd (some-ne-none x (sym e))
+got (y ∷ ys) zero x d e = some-injective y x e
+got (y ∷ ys) (suc i) x d e = got ys i x d e
+
+pub take_long : {A : Type 0} (xs : List A) (i : ℕ) → i ≤ length xs → length (take i xs) ≡ i
+take_long xs zero h = refl
+take_long [] (suc i) h = absurd (omega arith)
+take_long (x ∷ xs) (suc i) h = ap suc (take_long xs i (omega arith))

@@ -524,37 +524,37 @@ module _ (T : Type 0) (law : List Pair → Bool) (stands : T → First → List 
 
   pub takes_stripe_at : (slots id : ℕ) (me : Me (Option (Home T)) View) (l : ℕ) → l < g.frame.stripes → MayWant g.frame l me.0.caller → Allows Holds slots id me (l + 1) (λ x. either (eqb x 0) 1 x) (taken g.frame Law first (step slots (l + 1) 0 1 none) me)
   takes_stripe_at slots id me l low may = subst (λ (z : Ground T). Allows (Rule law stands store_view constants faults z) slots id me (l + 1) (λ x. either (eqb x 0) 1 x) (taken g.frame Law first (step slots (l + 1) 0 1 none) me)) same
-      (takes_stripe T Law first (good_of stands store_view constants g) (next_fits store_view g) (λ x a b le h. omega arith) faults (count_at faults g.start) g.frame slots id me l low may)
+      (takes_stripe T Law first (good_of stands store_view constants g) (next_fits store_view constants g) (λ x a b le h w. (let z = h w in omega arith)) faults (count_at faults g.start) g.frame slots id me l low may)
 
   pub takes_store_at : (slots id : ℕ) (me : Me (Option (Home T)) View) (i word : ℕ) → word ≡ store_lock g.frame i + 1 → i < g.frame.stores → MayWant g.frame (store_lock g.frame i) me.0.caller
-      → Allows Holds slots id me word (λ x. either (eqb x 0) 1 x) (taken_store g.frame Law first (good_of stands store_view constants g) (next_fits store_view g) faults (count_at faults g.start) (step slots word 0 1 none) me)
-  takes_store_at slots id me i word is low may = subst (λ (z : Ground T). Allows (Rule law stands store_view constants faults z) slots id me word (λ x. either (eqb x 0) 1 x) (taken_store g.frame Law first (good_of stands store_view constants g) (next_fits store_view g) faults (count_at faults g.start) (step slots word 0 1 none) me)) same
-      (takes_store T Law first (good_of stands store_view constants g) (next_fits store_view g) (λ x a b le h. omega arith) faults (count_at faults g.start) g.frame slots id me i word is low may)
+      → Allows Holds slots id me word (λ x. either (eqb x 0) 1 x) (taken_store g.frame Law first (good_of stands store_view constants g) (next_fits store_view constants g) faults (count_at faults g.start) (step slots word 0 1 none) me)
+  takes_store_at slots id me i word is low may = subst (λ (z : Ground T). Allows (Rule law stands store_view constants faults z) slots id me word (λ x. either (eqb x 0) 1 x) (taken_store g.frame Law first (good_of stands store_view constants g) (next_fits store_view constants g) faults (count_at faults g.start) (step slots word 0 1 none) me)) same
+      (takes_store T Law first (good_of stands store_view constants g) (next_fits store_view constants g) (λ x a b le h w. (let z = h w in omega arith)) faults (count_at faults g.start) g.frame slots id me i word is low may)
 
   pub parks_at : (slots id : ℕ) (me : Me (Option (Home T)) View) (i word : ℕ) → word ≡ store_lock g.frame i + 1 → MayTakeOut g.frame i me.0.caller → me.1 ≡ (i, None) ∷ rest me.1
       → Allows Holds slots id me word (λ x. x) (parked g.frame (step slots word 0 0 none) me)
   parks_at slots id me i word is may carries = subst (λ (z : Ground T). Allows (Rule law stands store_view constants faults z) slots id me word (λ x. x) (parked g.frame (step slots word 0 0 none) me)) same
-      (parks T Law first (good_of stands store_view constants g) (next_fits store_view g) (λ x a b le h. omega arith) faults (count_at faults g.start) g.frame slots id me i word is may carries)
+      (parks T Law first (good_of stands store_view constants g) (next_fits store_view constants g) (λ x a b le h w. (let z = h w in omega arith)) faults (count_at faults g.start) g.frame slots id me i word is may carries)
 
   pub fetches_at : (slots id : ℕ) (me : Me (Option (Home T)) View) (i word : ℕ) (b : Option ℕ) → word ≡ store_lock g.frame i + 1 → i < g.frame.stores → me.0.caller.live ≡ true → has i me.0.caller.out ≡ true → MayMark g.frame (count_at faults g.start) i me.0 b
       → Allows Holds slots id me word (λ x. x) (fetched g.frame b (step slots word 0 0 none) me)
   fetches_at slots id me i word b is low live out stays = subst (λ (z : Ground T). Allows (Rule law stands store_view constants faults z) slots id me word (λ x. x) (fetched g.frame b (step slots word 0 0 none) me)) same
-      (fetches T Law first (good_of stands store_view constants g) (next_fits store_view g) (λ x a b le h. omega arith) faults (count_at faults g.start) g.frame slots id me i word b is low live out stays)
+      (fetches T Law first (good_of stands store_view constants g) (next_fits store_view constants g) (λ x a b le h w. (let z = h w in omega arith)) faults (count_at faults g.start) g.frame slots id me i word b is low live out stays)
 
   pub gives_store_at : (slots id : ℕ) (me : Me (Option (Home T)) View) (i word : ℕ) (h : Home T) (n : ℕ) → word ≡ store_lock g.frame i + 1 → MayGiveStore g.frame i me.0.caller → me.1 ≡ (i, Some h) ∷ rest me.1
-      → h.broken ≡ marked i me.0.marks → Fits g.frame Law first (good_of stands store_view constants g) (next_fits store_view g) faults (count_at faults g.start) i me.0.caller h → faults h.store ≡ n → noted i me.0.counts ≤ n → (h.broken ≡ None → next_fits store_view g h.store (length me.0.caller.base))
+      → h.broken ≡ marked i me.0.marks → Fits g.frame Law first (good_of stands store_view constants g) (next_fits store_view constants g) faults (count_at faults g.start) i me.0.caller h → faults h.store ≡ n → noted i me.0.counts ≤ n → (h.broken ≡ None → next_fits store_view constants g h.store (length me.0.caller.base))
       → Allows Holds slots id me word (λ _. 0) (given_store g.frame n (step slots word 0 0 none) me)
   gives_store_at slots id me i word h n is may carries marked fits counted seen may_follow = subst (λ (z : Ground T). Allows (Rule law stands store_view constants faults z) slots id me word (λ _. 0) (given_store g.frame n (step slots word 0 0 none) me)) same
-      (gives_store T Law first (good_of stands store_view constants g) (next_fits store_view g) (λ x a b le h. omega arith) faults (count_at faults g.start) g.frame slots id me i word h n is may carries marked fits counted seen may_follow)
+      (gives_store T Law first (good_of stands store_view constants g) (next_fits store_view constants g) (λ x a b le h w. (let z = h w in omega arith)) faults (count_at faults g.start) g.frame slots id me i word h n is may carries marked fits counted seen may_follow)
 
   pub commits_at : (slots id : ℕ) (me : Me (Option (Home T)) View) (e : Entry) → MayCommit g.frame Law first e me.0.caller → Allows Holds slots id me 0 (λ x. (x + 1) % 2 ^ 64) (made g.frame Law first e (step slots 0 1 0 none) me)
   commits_at slots id me e may = subst (λ (z : Ground T). Allows (Rule law stands store_view constants faults z) slots id me 0 (λ x. (x + 1) % 2 ^ 64) (made g.frame Law first e (step slots 0 1 0 none) me)) same
-      (commits T Law first (good_of stands store_view constants g) (next_fits store_view g) (λ x a b le h. omega arith) faults (count_at faults g.start) g.frame slots id me e may)
+      (commits T Law first (good_of stands store_view constants g) (next_fits store_view constants g) (λ x a b le h w. (let z = h w in omega arith)) faults (count_at faults g.start) g.frame slots id me e may)
 
   pub gives_stripe_at : (slots id : ℕ) (me : Me (Option (Home T)) View) (l : ℕ) → MayGiveStripe g.frame l me.0.caller → Allows Holds slots id me (l + 1) (λ _. 0) (given (step slots (l + 1) 0 0 none) me)
   gives_stripe_at slots id me l may = subst (λ (z : Ground T). Allows (Rule law stands store_view constants faults z) slots id me (l + 1) (λ _. 0) (given (step slots (l + 1) 0 0 none) me)) same
-      (gives_stripe T Law first (good_of stands store_view constants g) (next_fits store_view g) (λ x a b le h. omega arith) faults (count_at faults g.start) g.frame slots id me l may)
+      (gives_stripe T Law first (good_of stands store_view constants g) (next_fits store_view constants g) (λ x a b le h w. (let z = h w in omega arith)) faults (count_at faults g.start) g.frame slots id me l may)
 
   pub looks_at : (slots id : ℕ) (me : Me (Option (Home T)) View) → me.0.caller.live ≡ true → Allows Holds slots id me 0 (λ x. x) (seen g.frame Law first (step slots 0 0 0 none) me)
   looks_at slots id me live = subst (λ (z : Ground T). Allows (Rule law stands store_view constants faults z) slots id me 0 (λ x. x) (seen g.frame Law first (step slots 0 0 0 none) me)) same
-      (looks T Law first (good_of stands store_view constants g) (next_fits store_view g) (λ x a b le h. omega arith) faults (count_at faults g.start) g.frame slots id me live)
+      (looks T Law first (good_of stands store_view constants g) (next_fits store_view constants g) (λ x a b le h w. (let z = h w in omega arith)) faults (count_at faults g.start) g.frame slots id me live)

@@ -1,16 +1,15 @@
 -- The rule at the start, and what it says at the end.
-use Rattle.std.proofs.Common.{◌≡◌, ℕ, zero, suc, ◌+◌, ◌<◌, ◌^◌, Bool, true, false, cond, List, [], ◌∷◌, length, map, replicate, get_or, refl, sym, ap, ◌∙◌, subst, arith, Option, Some, None, is_some}
+use Rattle.std.proofs.Common.{◌≡◌, ℕ, zero, suc, ◌+◌, ◌<◌, Bool, true, false, cond, List, [], ◌∷◌, length, map, replicate, get_or, refl, sym, ap, ◌∙◌, subst, arith, Option, Some, None, is_some}
 use mathlib.Core.List.{IsPrefix}
 use Rattle.std.proofs.lemmas.List.{length-replicate}
 use mathlib.Core.Option.{some, some-injective, some-ne-none}
 use lib.ListN.{get_elem?}
-use Rattle.atomic_table.specs.Table.{opening, Final, Seen}
+use Rattle.atomic_table.specs.Table.{State, opening, Final, Seen}
 use Rattle.atomic_table.proofs.Lists.{at_map}
 use Rattle.tk_model.specs.declared.record.Pair.{Pair}
 use Rattle.tk_model.specs.declared.record.Group.{Group}
 use Rattle.tk_store.specs.Store.{First, StoreView, StoreConstants}
 use Rattle.tk_core.specs.declared.frame.Frame.{Frame}
-use Rattle.tk_core.specs.Caller.{weight}
 use Rattle.tk_core.specs.Covers.{IsFrame, store_lock}
 use Rattle.tk_core.specs.Steps.{first_caller}
 use Rattle.tk_core.proofs.Runs.{starts}
@@ -19,11 +18,11 @@ use Rattle.tk_core.proofs.Programs.{all_same}
 use Rattle.tk_core.proofs.Halves.{knows_all}
 use Rattle.tk_locks.specs.declared.home.Home.{Home}
 use Rattle.tk_locks.specs.View.{View, first_view}
-use Rattle.tk_locks.specs.Rule.{callers_of, Ground, records_in, count_at, good_of, Standing, Counts, RuleOf, Rule}
+use Rattle.tk_locks.specs.Rule.{mark, callers_of, Ground, records_in, count_at, good_of, Standing, Counts, RuleOf, Rule}
 use Rattle.tk_locks.specs.Homes.{at_home}
-use Rattle.tk_locks.specs.Made.{Fresh, IsWhole}
+use Rattle.tk_locks.specs.Made.{Fresh, IsLeft, AtEnd}
 use Rattle.tk_locks.proofs.Facts.{under_store}
-use Rattle.tk_locks.proofs.Homes.{found_home, all_home}
+use Rattle.tk_locks.proofs.Homes.{found_home, all_home, gather, gather_long, gather_free, gather_held, places_from, places_long, placed_home, places_rise, places_all}
 
 pub there : {A : Type 0} (xs : List A) (i : ℕ) → i < length xs → (x : A) × (get_elem? xs i ≡ some x)
 there [] i h = absurd (omega arith)
@@ -83,7 +82,7 @@ module _ {T : Type 0} (law : List Pair → Bool) (stands : T → First → List 
       count = ap (λ l. get_or l 0 0) is ∙ all_same (f.stripes + f.stores + 1) 0 0;
       flags = λ l _. ap (λ w. get_or w (l + 1) 0) is ∙ all_same (f.stripes + f.stores + 1) (l + 1) 0;
       home = λ i low _. let x = there xs i (let z = fresh.long in omega arith) in let y = fresh.there i x.0 x.1 in
-          (y.0, at_map some xs i x.0 x.1 ∙ ap (λ (z : Option (Home T)). some (some z)) y.1, y.2, (let z = counted xs i y.0 (x.1 ∙ ap some y.1) in omega arith), λ _. (let z = y.4 in omega arith));
+          (y.0, at_map some xs i x.0 x.1 ∙ ap (λ (z : Option (Home T)). some (some z)) y.1, y.2, (let z = counted xs i y.0 (x.1 ∙ ap some y.1) in omega arith), λ _ w. (let z = y.4 w in omega arith));
       out = λ i low a. absurd (cc (a));
     };
     since = λ i. omega arith;
@@ -91,30 +90,72 @@ module _ {T : Type 0} (law : List Pair → Bool) (stands : T → First → List 
     other = only (λ j v. IsPrefix v.other []) (λ j. ([], refl));
   }
 
+not_owned : (o : ℕ) → mark o ≡ 0 → o ≡ 0
+not_owned zero e = refl
+not_owned (suc o) e = absurd (omega arith)
+
 module _ (T : Type 0) (law : List Pair → Type 0) (m : List Pair) (good : ℕ → T → List Group → ℕ → Type 0) (next : T → ℕ → Type 0) (faults : T → ℕ) (begun : ℕ → ℕ) (f : Frame) where
-  -- the last state, seen by who has the whole weight and holds no lock
-  pub ends : (id : ℕ) (v : View) (words : List ℕ) (xs : List (Option (Home T))) → Final (Seen (RuleOf law m good next faults begun f) id v) words xs → weight v.caller ≡ 2 ^ 62 → v.caller.held ≡ []
-      → IsWhole f law m good faults v (get_or words 0 0) (at_home xs)
-  ends id v words xs (s, seen, same_words, long, homes) heavy idle =
+  abbrev Slot : Type 0
+  Slot = Option (Home T)
+
+  abbrev Kept : State Slot View → Type 0
+  Kept = RuleOf law m good next faults begun f
+
+  -- a store whose lock is free
+  lies : (s : State Slot View) (r : Kept s) (id : ℕ) (v : View) → get_elem? s.views id ≡ some v → (i : ℕ) → i < f.stores → r.owner (store_lock f i) ≡ 0 → (h : Home T) × (get_elem? s.homes i ≡ some (some (Some h))) × IsLeft f m good next faults begun v r.log i h
+  lies s r id v at i low free =
+      let u = r.shows.home i low free in let bad : is_some u.0.broken ≡ r.spoilt i = ap is_some u.2 ∙ r.broken_is i in
+      let k = r.sound.knows id v.caller (at_map (λ (x : View). x.caller) s.views id v at) in (
+        u.0,
+        u.1,
+        record {
+          low = low;
+          stands = λ whole. r.sound.stores i low (sym bad ∙ ap is_some whole) (r.sound.home i free) u.0 u.1;
+          follows = u.4;
+          risen = λ n e. r.risen i n (sym u.2 ∙ e);
+          met = λ hit. bad ∙ k.met i hit;
+          since = let a = r.since i in let b = u.3 in omega arith;
+          counts = under_store r.floor i (faults u.0.store) v.counts u.3 (r.counts id v at).under;
+        },
+      )
+
+  -- the last state, seen by who holds no lock
+  pub ends : (id : ℕ) (v : View) (words : List ℕ) (xs : List Slot) → Final (Seen Kept id v) words xs → v.caller.held ≡ []
+      → AtEnd f law m good next faults begun v (get_or words 0 0) (at_home (gather (λ q. get_or words (store_lock f q + 1) 0) 0 xs))
+  ends id v words xs (s, seen, same_words, long, homes) idle =
       let r = seen.0 in let at : get_elem? (callers_of s.views) id ≡ some v.caller = at_map (λ (u : View). u.caller) s.views id v seen.1 in
       let k = r.sound.knows id v.caller at in
-      let all = knows_all f law m r.log r.owner r.spoilt r.away (Standing good s.homes) (callers_of s.views) r.sound id v.caller at heavy idle in
-      let wide : length xs ≡ f.stores = sym long ∙ r.shows.slots in
-      let there_all : (i : ℕ) → i < length xs → (h : Home T) × (get_elem? xs i ≡ some (Some h)) = λ i low. let u = r.shows.home i (omega arith) (all.0 (store_lock f i)) in (u.0, homes i (Some u.0) u.1) in
+      let w : ℕ → ℕ = λ q. get_or words (store_lock f q + 1) 0 in let ys : List Slot = gather w 0 xs in
+      let count : length ys ≡ f.stores = gather_long w 0 xs ∙ sym long ∙ r.shows.slots in
+      let flag : (i : ℕ) → i < f.stores → w (0 + i) ≡ mark (r.owner (store_lock f i)) = λ i low. let q : 0 + i ≡ i = omega arith in ap w q ∙ ap (λ ws. get_or ws (store_lock f i + 1) 0) (sym same_words) ∙ r.shows.flags (store_lock f i) (omega arith) in
+      let here : (i : ℕ) → i < f.stores → r.owner (store_lock f i) ≡ 0 → (h : Home T) × (get_elem? ys i ≡ some (Some h)) × IsLeft f m good next faults begun v r.log i h = λ i low free. let u = lies s r id v seen.1 i low free in
+      (u.0, gather_free w 0 xs i (flag i low ∙ ap mark free) ∙ homes i (Some u.0) u.1, u.2) in
+      let each : (i : ℕ) (h : Home T) → i < f.stores → get_elem? ys i ≡ some (Some h) → IsLeft f m good next faults begun v r.log i h = λ i h low e.
+      let u = here i low (not_owned (r.owner (store_lock f i)) (sym (flag i low) ∙ gather_held w 0 xs i h e)) in
+      let same : u.0 ≡ h = (let z : Some u.0 ≡ Some h = some-injective (Some u.0) (Some h) (sym u.1 ∙ e) in cc (z)) in subst (λ (z : Home T). IsLeft f m good next faults begun v r.log i z) same u.2 in
       record {
         log = r.log;
         lawful = r.sound.history;
         calls_are = ap (λ ws. get_or ws 0 0) (sym same_words) ∙ r.shows.count;
         seen = k.seen;
         placed = k.placed;
-        numbers = all.1;
-        all = all.3;
-        long = all_home xs there_all ∙ wide;
-        stores = λ i low. let u = r.shows.home i low (all.0 (store_lock f i)) in (
-          u.0,
-          found_home xs there_all i u.0 (homes i (Some u.0) u.1),
-          all.2 i ∙ ap (λ (b : Bool). cond b 1 0) (sym (ap is_some u.2 ∙ r.broken_is i)),
-          (λ whole. r.sound.stores i low (sym (ap is_some u.2 ∙ r.broken_is i) ∙ ap is_some whole) (r.sound.home i (all.0 (store_lock f i))) u.0 u.1),
-          under_store r.floor i (faults u.0.store) v.counts u.3 (r.counts id v seen.1).under,
-        );
+        places = places_from 0 ys;
+        each_placed = places_long 0 ys;
+        rising = places_rise ys 0;
+        each = λ q i h p e. let t = placed_home ys 0 q i h p e in let same : t.0 ≡ i = (let z = t.1 in omega arith) in
+            each i h (let z = t.2 in omega arith) (ap (get_elem? ys) (sym same) ∙ t.3);
+        whole = λ heavy.
+            let all = knows_all f law m r.log r.owner r.spoilt r.away (Standing good s.homes) (callers_of s.views) r.sound id v.caller at heavy idle in
+            let there_all : (i : ℕ) → i < length ys → (h : Home T) × (get_elem? ys i ≡ some (Some h)) = λ i low. let u = here i (omega arith) (all.0 (store_lock f i)) in (u.0, u.1) in
+            record {
+              numbers = all.1;
+              all = all.3;
+              long = all_home ys there_all ∙ count;
+              there = λ i low. let q : 0 + i ≡ i = omega arith in places_all ys there_all 0 i (omega arith) ∙ ap some q;
+              broke = λ i low. let u = r.shows.home i low (all.0 (store_lock f i)) in let bad : is_some u.0.broken ≡ r.spoilt i = ap is_some u.2 ∙ r.broken_is i in (
+                u.0,
+                found_home ys there_all i u.0 (gather_free w 0 xs i (flag i low ∙ ap mark (all.0 (store_lock f i))) ∙ homes i (Some u.0) u.1),
+                all.2 i ∙ ap (λ (b : Bool). cond b 1 0) (sym bad),
+              );
+            };
       }

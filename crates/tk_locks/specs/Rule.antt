@@ -82,9 +82,9 @@ pub record Counts (f : Frame) (owner floor : ℕ → ℕ) (kept : ℕ → Option
   pub own : (i : ℕ) → owner (store_lock f i) ≡ suc j → noted i v.counts ≡ floor i
   pub mark : (i : ℕ) → owner (store_lock f i) ≡ suc j → marked i v.marks ≡ kept i
 
--- a group may have the number of the next call
-abbrev pub next_fits : {T : Type 0} → (T → StoreView) → Ground T → T → ℕ → Type 0
-next_fits store_view g x n = (store_view x).floor ≤ g.frame.base + n
+-- a group may have the number of the next call, where the store may be written
+abbrev pub next_fits : {T : Type 0} → (T → StoreView) → (T → StoreConstants) → Ground T → T → ℕ → Type 0
+next_fits store_view constants g x n = (constants x).writable ≡ true → (store_view x).floor ≤ g.frame.base + n
 
 module _ {T : Type 0} where
   -- a store that lies in its slot is good for the groups
@@ -124,4 +124,4 @@ module _ {T : Type 0} where
     pub other : (j : ℕ) (v : View) → get_elem? s.views j ≡ some v → IsPrefix v.other log
 
   abbrev pub Rule : (List Pair → Bool) → (T → First → List Group → ℕ → Type 0) → (T → StoreView) → (T → StoreConstants) → (T → ℕ) → Ground T → State (Option (Home T)) View → Type 0
-  Rule law stands store_view constants faults g s = RuleOf (λ m. law m ≡ true) (records_in g.frame.order store_view g.start) (good_of stands store_view constants g) (next_fits store_view g) faults (count_at faults g.start) g.frame s
+  Rule law stands store_view constants faults g s = RuleOf (λ m. law m ≡ true) (records_in g.frame.order store_view g.start) (good_of stands store_view constants g) (next_fits store_view constants g) faults (count_at faults g.start) g.frame s

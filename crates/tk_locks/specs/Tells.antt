@@ -10,7 +10,7 @@ use Rattle.tk_locks.specs.declared.home.Home.{Home}
 use Rattle.tk_locks.specs.View.{View}
 use Rattle.tk_locks.specs.Rule.{Ground, records_in, good_of, next_fits, count_at}
 use Rattle.tk_locks.specs.Steps.{TookStripe, Missed, Saw, Committed, Fits, GotStore}
-use Rattle.tk_locks.specs.Made.{IsWhole}
+use Rattle.tk_locks.specs.Made.{AtEnd}
 
 module _ {T : Type 0} (law : List Pair → Bool) (shown : T → StoreView) (g : Ground T) where
   abbrev first_map : List Pair
@@ -37,10 +37,11 @@ module _ {T : Type 0} (law : List Pair → Bool) (stands : T → First → List 
 
   -- the store is good for what the caller owes it
   abbrev pub IsOwed : ℕ → Caller → Home T → Type 0
-  IsOwed i v h = Fits g.frame (λ m. law m ≡ true) map_then (good_of stands shown constants g) (next_fits shown g) faults (count_at faults g.start) i v h
+  IsOwed i v h = Fits g.frame (λ m. law m ≡ true) map_then (good_of stands shown constants g) (next_fits shown constants g) faults (count_at faults g.start) i v h
 
   abbrev pub TakesStore : ℕ → View → Home T → View → Type 0
-  TakesStore i v h w = GotStore g.frame (λ m. law m ≡ true) map_then (good_of stands shown constants g) (next_fits shown g) faults (count_at faults g.start) i v h w
+  TakesStore i v h w = GotStore g.frame (λ m. law m ≡ true) map_then (good_of stands shown constants g) (next_fits shown constants g) faults (count_at faults g.start) i v h w
 
-  abbrev pub FindsAll : View → ℕ → List (Home T) → Type 0
-  FindsAll v n hs = IsWhole g.frame (λ m. law m ≡ true) map_then (good_of stands shown constants g) faults v n hs
+  -- what an idle pass finds when the table is dissolved
+  abbrev pub Finds : View → ℕ → List (Home T) → Type 0
+  Finds v n hs = AtEnd g.frame (λ m. law m ≡ true) map_then (good_of stands shown constants g) (next_fits shown constants g) faults (count_at faults g.start) v n hs

@@ -20,6 +20,7 @@ use atomic_table::{Badge, Seat};
 use std::marker::Brand;
 use std::mem;
 use std::sync::Wait;
+use tk_core::Frame;
 use tk_store::SeqStore;
 
 impl Pass {
@@ -50,6 +51,12 @@ impl Pass {
 }
 
 impl<S: SeqStore> LockTable<S> {
+    pub fn frame(&self) -> Frame
+        ensures { result ≡ (its self.now).frame }
+    {
+        self.frame
+    }
+
     /// Waits until the stripe's lock is free, and takes it.
     pub fn take_stripe<R: Wait>(&self, rt: &R, pass: &mut Pass, i: u32)
         requires own { IsPassOf self.now pass.old }
@@ -91,7 +98,7 @@ impl<S: SeqStore> LockTable<S> {
             (its self.now) i (view pass.old).caller home }
         requires count { noted i (view pass.old).counts ≤ S.fault_count home.store }
         requires next { home.broken ≡ None
-            → next_fits S.store_view (its self.now) home.store
+            → next_fits S.store_view S.constants (its self.now) home.store
             (length (view pass.old).caller.base) }
         ensures own { IsPassOf self.now pass.new }
         ensures step { GaveStore S.fault_count (its self.now).frame i (view pass.old) home

@@ -1,16 +1,15 @@
 //! How a table is made, and taken apart.
-ghost use Rattle.std.specs.Prelude.{◌≡◌, ◌≤◌, ◌^◌, ℕ, [], true, length, IfOk, IfErr};
+ghost use Rattle.std.specs.Prelude.{◌≡◌, ◌≤◌, [], true, length, IfOk, IfErr};
 ghost use Rattle.std.specs.Vec.{vec_capacity};
-ghost use Rattle.tk_core.specs.Caller.{weight};
 ghost use Rattle.tk_core.specs.Covers.{IsFrame};
 ghost use Rattle.tk_locks.specs.Homes.{homes_of};
 ghost use Rattle.tk_locks.specs.View.{first_view};
 ghost use Rattle.tk_locks.specs.Rule.{ground_of};
 ghost use Rattle.tk_locks.specs.Calls.{at, view, its, IsSeatOf, IsPassOf};
 ghost use Rattle.tk_locks.specs.Made.{Fresh, frame_of};
-ghost use Rattle.tk_locks.specs.Tells.{FindsAll};
+ghost use Rattle.tk_locks.specs.Tells.{Finds};
 
-use crate::home::{Home, StoreList};
+use crate::home::{Dissolved, Home, StoreList};
 use crate::lists::{lodged, put_home, unlodged};
 use crate::pass::Pass;
 use crate::rule::Law;
@@ -108,44 +107,42 @@ impl<S: SeqStore + Drop> LockTable<S> {
             Err(Refused { slots }) => Err(slots),
         }
     }
-}
 
-impl<S: SeqStore> LockTable<S> {
-    /// The stores that are at home, in order. Takes no memory.
-    pub fn dissolve(self, mut pass: Pass) -> StoreList<Home<S>>
+    /// Takes no memory. A store whose lock was not given back is let go.
+    pub fn dissolve(self, mut pass: Pass) -> Dissolved<S>
         requires own { IsPassOf self pass }
         requires none { (view pass).caller.held ≡ [] }
-        ensures few { length result ≤ (its self).frame.stores }
-        ensures whole { weight (view pass).caller ≡ 2 ^ 62 → (calls : ℕ)
-            × FindsAll S.lawful S.stands S.store_view S.constants S.fault_count
-            (its self) (view pass) calls result }
+        ensures few { length result.stores ≤ (its self).frame.stores }
+        ensures end { Finds S.lawful S.stands S.store_view S.constants S.fault_count (its self)
+            (view pass) result.calls result.stores }
     {
         let seat: Sitting<S> = pass.open();
-        ListOf::from_vec(self.dissolve_as(seat))
+        let (homes, calls) = self.dissolve_as(seat);
+        Dissolved {
+            stores: ListOf::from_vec(homes),
+            calls,
+        }
     }
 
-    fn dissolve_as(self, seat: Sitting<S>) -> Vec<Home<S>>
+    fn dissolve_as(self, seat: Sitting<S>) -> (Vec<Home<S>>, u64)
         requires own { IsSeatOf self seat }
         requires idle { (at seat).caller.held ≡ [] }
-        ensures few { length result.items ≤ (its self).frame.stores }
-        ensures whole { weight (at seat).caller ≡ 2 ^ 62 → (calls : ℕ)
-            × FindsAll S.lawful S.stands S.store_view S.constants S.fault_count
-            (its self) (at seat) calls result.items }
+        ensures few { length result.0.items ≤ (its self).frame.stores }
+        ensures end { Finds S.lawful S.stands S.store_view S.constants S.fault_count (its self)
+            (at seat) result.1 result.0.items }
     {
-        let LockTable {
-            table,
-            frame: _,
-            room,
-        } = self;
+        let LockTable { table, frame, room } = self;
         let Room { list: mut into } = room.into_inner();
         let mut closed = table.close_with(seat);
+        let calls = closed.word(0);
         let mut i = 0;
         while i < closed.slot_count() {
+            let lock = closed.word(frame.stripes as usize + i + 1);
             let slot = closed.take(i);
-            put_home(&mut into, slot);
+            put_home(&mut into, slot, lock);
             i += 1;
         }
         closed.free();
-        into
+        (into, calls)
     }
 }

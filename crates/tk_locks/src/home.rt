@@ -8,3 +8,11 @@ pub struct Home<S> {
 }
 
 pub type StoreList<S> = ListOf<S>;
+
+/// The stores whose locks were free when the table was dissolved, in order, and how many calls were
+/// made.
+#[derive(Drop)]
+pub struct Dissolved<S> {
+    pub stores: StoreList<Home<S>>,
+    pub calls: u64,
+}

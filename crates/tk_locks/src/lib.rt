@@ -11,7 +11,7 @@ mod steps;
 mod table;
 mod view;
 
-pub use home::{Home, StoreList};
+pub use home::{Dissolved, Home, StoreList};
 pub use pass::Pass;
 pub use rule::Call;
 pub use table::{LockTable, Origin};

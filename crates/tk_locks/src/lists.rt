@@ -1,5 +1,5 @@
 //! Stores on their way into a table and out of it.
-ghost use Rattle.std.specs.Prelude.{◌≡◌, ◌≤◌, ◌<◌, ◌++◌, ◌∷◌, [], length};
+ghost use Rattle.std.specs.Prelude.{◌≡◌, ◌≢◌, ◌≤◌, ◌<◌, ◌++◌, ◌∷◌, [], length};
 ghost use Rattle.std.specs.Vec.{vec_capacity};
 ghost use Rattle.tk_locks.specs.Homes.{homes_of, at_home, bare};
 
@@ -47,14 +47,17 @@ fn put_bare<S: Drop>(into: &mut Vec<S>, slot: Option<Home<S>>)
     }
 }
 
-/// The store that lies in a slot, behind others.
-pub(crate) fn put_home<S>(into: &mut Vec<Home<S>>, slot: Option<Home<S>>)
+/// The store of a slot whose lock is free, behind others.
+pub(crate) fn put_home<S: Drop>(into: &mut Vec<Home<S>>, slot: Option<Home<S>>, lock: u64)
     requires room { length into.old.items < vec_capacity into.old }
-    ensures items { into.new.items ≡ into.old.items ++ at_home (slot ∷ []) }
+    ensures free { lock ≡ 0 → into.new.items ≡ into.old.items ++ at_home (slot ∷ []) }
+    ensures held { lock ≢ 0 → into.new.items ≡ into.old.items }
     ensures capacity { vec_capacity into.new ≡ vec_capacity into.old }
 {
-    match slot {
-        Some(home) => into.push_reserved(home),
-        None => {}
+    if lock != 0 {
+        return;
+    }
+    if let Some(home) = slot {
+        into.push_reserved(home);
     }
 }

@@ -96,8 +96,9 @@ impl<S: SeqStore, J: Told<S>> Play<Option<Home<S>>, Seen> for TakeStore<J> {
 
     ghost then = { taken_store J.ground.frame (λ m. S.lawful m ≡ true)
         (records_in J.ground.frame.order S.store_view J.ground.start)
-        (good_of S.stands S.store_view S.constants J.ground) (next_fits S.store_view J.ground)
-        S.fault_count (count_at S.fault_count J.ground.start) };
+        (good_of S.stands S.store_view S.constants J.ground)
+        (next_fits S.store_view S.constants J.ground) S.fault_count
+        (count_at S.fault_count J.ground.start) };
 }
 
 /// Gives the empty slot back, under its lock.

@@ -144,8 +144,8 @@ impl<S: SeqStore> LockTable<S> {
         requires fits { IsOwed S.lawful S.stands S.store_view S.constants S.fault_count J.ground
             i (at seat.old).caller home }
         requires count { noted i (at seat.old).counts ≤ S.fault_count home.store }
-        requires next { home.broken ≡ None → next_fits S.store_view J.ground home.store (length
-            (at seat.old).caller.base) }
+        requires next { home.broken ≡ None → next_fits S.store_view S.constants J.ground
+            home.store (length (at seat.old).caller.base) }
         ensures own { IsSameSeat seat.old seat.new }
         ensures step { GaveStore S.fault_count J.ground.frame i (at seat.old) home (at seat.new) }
     {

@@ -28,6 +28,7 @@ pub(crate) struct Room<S> {
 }
 
 /// Locks, one history and stores, for many threads.
+#[derive(Drop)]
 pub struct LockTable<S: SeqStore> {
     pub(crate) table: Table<Option<Home<S>>, Seen, Origin<S>, Law, Global>,
     pub(crate) frame: Frame,

@@ -33,17 +33,17 @@ swap-requires g c =
           (may_give g.J.Told.ground.frame c.args.i g.K.Marked.kept c.args.seat.now.me.0 c.exchange.new.seat.me.0 c.requires.live c.requires.lock.0 c.requires.lock.1 same)
           (ap (λ m. m.1) now ∙ (λ i. (c.args.i, Some c.args.home) ∷ sym (ap (λ m. rest m.1) now) i))
           (sym c.requires.marked.0 ∙ sym (ap (λ (y : View). marked c.args.i y.marks) same ∙ marked_head c.args.i g.K.Marked.kept c.args.seat.now.me.0.marks))
-          (subst (λ (y : View). Fits g.J.Told.ground.frame (λ m. g.S.SeqStore.lawful m ≡ true) (records_in g.J.Told.ground.frame.order g.S.SeqStore.store_view g.J.Told.ground.start) (good_of g.S.SeqStore.stands g.S.SeqStore.store_view g.S.SeqStore.constants g.J.Told.ground) (next_fits g.S.SeqStore.store_view g.J.Told.ground) g.S.SeqStore.fault_count (count_at g.S.SeqStore.fault_count g.J.Told.ground.start) c.args.i y.caller c.args.home) (sym same) c.requires.fits)
+          (subst (λ (y : View). Fits g.J.Told.ground.frame (λ m. g.S.SeqStore.lawful m ≡ true) (records_in g.J.Told.ground.frame.order g.S.SeqStore.store_view g.J.Told.ground.start) (good_of g.S.SeqStore.stands g.S.SeqStore.store_view g.S.SeqStore.constants g.J.Told.ground) (next_fits g.S.SeqStore.store_view g.S.SeqStore.constants g.J.Told.ground) g.S.SeqStore.fault_count (count_at g.S.SeqStore.fault_count g.J.Told.ground.start) c.args.i y.caller c.args.home) (sym same) c.requires.fits)
           (sym c.requires.marked.1)
           (let n = c.requires.count in let e = c.requires.marked.1 in let q = ap (λ (y : View). noted c.args.i y.counts) same in omega arith)
-          (λ whole. subst (λ (y : View). next_fits g.S.SeqStore.store_view g.J.Told.ground c.args.home.store (length y.caller.base)) (sym same) (c.requires.next whole)),
+          (λ whole. subst (λ (y : View). next_fits g.S.SeqStore.store_view g.S.SeqStore.constants g.J.Told.ground c.args.home.store (length y.caller.base)) (sym same) (c.requires.next whole)),
     )
 
 pub unreachable-requires : goal.unreachable-requires
 unreachable-requires g c =
     let fe = ap (λ z. z.frame) c.requires.ground ∙ c.args.self.now.sized.2 in let we = ap (λ (z : Frame). z.stripes + c.args.i + 1) (sym fe) in
     let t = c.load.ensures.2 c.args.i we in
-    let e = same_value g.row.S.Denot g.J.Told.ground.frame (λ m. g.S.SeqStore.lawful m ≡ true) (records_in g.J.Told.ground.frame.order g.S.SeqStore.store_view g.J.Told.ground.start) (good_of g.S.SeqStore.stands g.S.SeqStore.store_view g.S.SeqStore.constants g.J.Told.ground) (next_fits g.S.SeqStore.store_view g.J.Told.ground) g.S.SeqStore.fault_count (count_at g.S.SeqStore.fault_count g.J.Told.ground.start)
+    let e = same_value g.row.S.Denot g.J.Told.ground.frame (λ m. g.S.SeqStore.lawful m ≡ true) (records_in g.J.Told.ground.frame.order g.S.SeqStore.store_view g.J.Told.ground.start) (good_of g.S.SeqStore.stands g.S.SeqStore.store_view g.S.SeqStore.constants g.J.Told.ground) (next_fits g.S.SeqStore.store_view g.S.SeqStore.constants g.J.Told.ground) g.S.SeqStore.fault_count (count_at g.S.SeqStore.fault_count g.J.Told.ground.start)
     c.args.i c.load.new.seat.me.1 _ _ _ _ t.1 c.exchange.ensures.2 in cc (e, c.in-Some.is)
 
 pub returns-clause-own : goal.returns-clause-own

@@ -27,7 +27,7 @@ load-requires g c =
       search rules,
       (let e = ap (λ (z : Frame). z.stores) fe in let l = c.requires.lock.0 in let z = c.args.self.now.sized.0 in omega arith),
       parks_at _ _ _ _ _ _ _ _ c.requires.ground _ _ _ c.args.i _ we
-          (may_park _ g.J.Told.ground.frame (λ m. g.S.SeqStore.lawful m ≡ true) (records_in g.J.Told.ground.frame.order g.S.SeqStore.store_view g.J.Told.ground.start) (good_of g.S.SeqStore.stands g.S.SeqStore.store_view g.S.SeqStore.constants g.J.Told.ground) (next_fits g.S.SeqStore.store_view g.J.Told.ground) g.S.SeqStore.fault_count (count_at g.S.SeqStore.fault_count g.J.Told.ground.start)
+          (may_park _ g.J.Told.ground.frame (λ m. g.S.SeqStore.lawful m ≡ true) (records_in g.J.Told.ground.frame.order g.S.SeqStore.store_view g.J.Told.ground.start) (good_of g.S.SeqStore.stands g.S.SeqStore.store_view g.S.SeqStore.constants g.J.Told.ground) (next_fits g.S.SeqStore.store_view g.S.SeqStore.constants g.J.Told.ground) g.S.SeqStore.fault_count (count_at g.S.SeqStore.fault_count g.J.Told.ground.start)
           c.args.i c.args.seat.now.me.0 c.compare_exchange.new.seat.me.0 c.exchange-home.new.seat.me.0 t.0 c.requires.lock.0 c.requires.lock.1 t.1 (ap (λ m. m.0) now))
           (ap (λ m. m.1) now ∙ (λ i. (c.args.i, None) ∷ sym (ap (λ m. rest m.1) now) i)),
     )
@@ -42,7 +42,7 @@ pub returns-clause-step : goal.returns-clause-step
 returns-clause-step g c =
     let fe = ap (λ z. z.frame) c.requires.ground ∙ c.args.self.now.sized.2 in let we = ap (λ (z : Frame). z.stripes + c.args.i + 1) (sym fe) in
     let t = (c.compare_exchange.ensures.2 c.args.i we).0 c.if-compare_exchange-ne0.false in
-    got_store _ g.J.Told.ground.frame (λ m. g.S.SeqStore.lawful m ≡ true) (records_in g.J.Told.ground.frame.order g.S.SeqStore.store_view g.J.Told.ground.start) (good_of g.S.SeqStore.stands g.S.SeqStore.store_view g.S.SeqStore.constants g.J.Told.ground) (next_fits g.S.SeqStore.store_view g.J.Told.ground) g.S.SeqStore.fault_count (count_at g.S.SeqStore.fault_count g.J.Told.ground.start)
+    got_store _ g.J.Told.ground.frame (λ m. g.S.SeqStore.lawful m ≡ true) (records_in g.J.Told.ground.frame.order g.S.SeqStore.store_view g.J.Told.ground.start) (good_of g.S.SeqStore.stands g.S.SeqStore.store_view g.S.SeqStore.constants g.J.Told.ground) (next_fits g.S.SeqStore.store_view g.S.SeqStore.constants g.J.Told.ground) g.S.SeqStore.fault_count (count_at g.S.SeqStore.fault_count g.J.Told.ground.start)
     c.args.i c.args.seat.now.me.0 c.compare_exchange.new.seat.me c.exchange-home.new.seat.me c.load.new.seat.me c.exchange-home.result t.0 c.args.seat.now.me.1 t.1 t.2 c.exchange-home.ensures.2 (ap (λ m. m.0) c.exchange-home.ensures.3) (c.load.ensures.2 c.args.i we).0
 
 pub returns-then-compare_exchange-ne0-clause-own : goal.returns-then-compare_exchange-ne0-clause-own
