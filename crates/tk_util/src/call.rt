@@ -134,7 +134,8 @@ fn call_on<D: Disk, P: RecordProcessor>(
         × HashStands D.image D.may_leave D.past store.old (opening groups) [] 0 }
     requires open { (hash_view D.image store.old).closed ≡ false }
     requires limit { (hash_constants store.old).limit ≡ 2 ^ 40 }
-    requires low { (hash_constants store.old).writable ≡ true → (hash_constants store.old).next ≤ 2 ^ 62 }
+    requires low { (hash_constants store.old).writable ≡ true → (hash_constants store.old).next
+        ≤ 2 ^ 62 }
     requires may { ((was : Option (List ℕ)) → P.acts p.old key.now was ≡ Keep)
         ⊎ ((hash_constants store.old).writable ≡ true) }
     ensures made { (groups : List Group)
