@@ -102,7 +102,10 @@ image_unread (Some f) p found h e stop same some other is tells told =
 
 -- ---- the new file of a file that can be restored is whole
 
-neither : (b c : Bool) → (if b then Some 8 else (if c then Some 10 else None)) ≡ None → (b ≡ false) × (c ≡ false)
+abbrev fault_of : Bool → Bool → Option ℕ
+fault_of b c = if b then Some 8 else (if c then Some 10 else None)
+
+neither : (b c : Bool) → fault_of b c ≡ None → (b ≡ false) × (c ≡ false)
 neither true c none = absurd (cc none)
 neither false true none = absurd (cc none)
 neither false false none = (refl, refl)

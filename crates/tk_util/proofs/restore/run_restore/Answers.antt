@@ -1,6 +1,7 @@
 use Rattle.std.proofs.Common.{ℕ, List, refl, ◌∙◌, subst, inr}
 use Rattle.std.specs.Prelude.{Option}
 use Rattle.tk_disk.specs.Disk.{Rose}
+use Rattle.tk_disk.specs.Folder.{or_empty}
 use Rattle.tk_util.specs.Restoring.{WroteNew}
 use Rattle.tk_util.proofs.OnFolder.{leaves_after}
 use Rattle.tk_util.proofs.Restoring.{restored_ran, restored_settled, unread_settled, only_to, settled_at}
@@ -25,5 +26,5 @@ pub returns-in-Ok-clause-ran : goal.returns-in-Ok-clause-ran
 returns-in-Ok-clause-ran g c = λ left held tells.
     restored_ran _ _ _ (record { others = only_to _ (g.F.Folder.file c.read_from.new.folder) _ _ (c.read_from.ensures.files tells) c.write_to.ensures.others; left = refl; held = refl })
     c.write_to.result (c.in-Ok.ensures.read tells).1
-    (subst (λ (o : Option (List ℕ)). WroteNew _ o _ c.write_to.result) (c.read_from.ensures.files tells _) (c.write_to.ensures.wrote (c.read_from.ensures.tells ∙ tells) _ (c.in-Ok.ensures.read tells).0))
+    (subst (λ (o : Option (List ℕ)). WroteNew (or_empty (g.F.Folder.file c.args.folder.now c.args.restore.from.now)) o (g.F.Folder.file c.write_to.new.folder c.args.restore.to.now) c.write_to.result) (c.read_from.ensures.files tells _) (c.write_to.ensures.wrote (c.read_from.ensures.tells ∙ tells) _ (c.in-Ok.ensures.read tells).0))
     c.write_to.ensures.ends
