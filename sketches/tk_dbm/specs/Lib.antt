@@ -1,9 +1,0 @@
-pub mod Setting
-pub mod Calls
-pub mod Room
-pub mod OneKey
-pub mod Passes
-pub mod Making
-pub mod Fates
-pub mod Closing
-pub mod Dbm
