@@ -222,7 +222,7 @@ module _ (T : Type 0) (law : List Pair → Type 0) (m : List Pair) (good : ℕ �
             })
             (r.other id v at) (λ p h2. h2)),
         (λ q e. subst (λ (z : ℕ). (x ≡ 0 → (d : Home T) × TookStore f law m good next faults begun z v d w × ((i, Some h) ∷ me.1 ≡ (z, Some d) ∷ me.1)) × (x ≢ 0 → Missed f law m (store_lock f z) v w × ((i, Some h) ∷ me.1 ≡ me.1))) (only_store i q word is e)
-            ((λ _. (h, (r.log, meets s r id v at, refl, (λ whole. r.sound.stores i low (sym bad ∙ ap is_some whole) still_home h got.1), (let z = noted_under r.floor i v.counts c.under in let y = got.3 in omega arith), (r.sound.knows id v.caller (here s id v at)).out i ∙ nothing_away (has l v.caller.held) (r.away i) still_home, got.4, (let z = r.since i in let y = got.3 in omega arith), known.knows_which f law m r.log owner' r.spoilt r.away (Stand s.homes) (set (callers_of s.views) id w.caller) now id w.caller (set_here (callers_of s.views) id w.caller (in_range (callers_of s.views) id v.caller (here s id v at))) i (has_head l v.caller.held) ∙ sym bad), refl)), λ miss. absurd (miss hit))),
+            ((λ _. (h, (r.log, meets s r id v at, refl, (λ whole. r.sound.stores i low (sym bad ∙ ap is_some whole) still_home h got.1), (let z = noted_under r.floor i v.counts c.under in let y = got.3 in omega arith), (r.sound.knows id v.caller (here s id v at)).out i ∙ nothing_away (has l v.caller.held) (r.away i) still_home, got.4, (let z = r.since i in let y = got.3 in omega arith), known.knows_which f law m r.log owner' r.spoilt r.away (Stand s.homes) (set (callers_of s.views) id w.caller) now id w.caller (set_here (callers_of s.views) id w.caller (in_range (callers_of s.views) id v.caller (here s id v at))) i (has_head l v.caller.held) ∙ sym bad, (λ n2 e2. r.risen i n2 (sym got.2 ∙ e2))), refl)), λ miss. absurd (miss hit))),
       ))
       (λ miss. (
         with_caller (missed l v.caller) v,

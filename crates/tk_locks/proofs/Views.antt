@@ -33,7 +33,7 @@ module _ (T : Type 0) (f : Frame) (law : List Pair → Type 0) (m : List Pair) (
   got_store i v me u z out h rest_of t carries was same moves =
       let now : z.0 ≡ with_caller (took_out i me.0.caller) me.0 = moves ∙ ap (λ (y : View). with_caller (took_out i y.caller) y) same in
       subst (λ (y : S). MatchOption y (Missed f law m (store_lock f i) v z.0) (λ d. GotStore f law m good next faults begun i v d z.0)) (same_value i me.1 rest_of (rest me.1) (Some h) out carries was)
-      (t.0, t.1, now ∙ ap (λ (y : View). with_caller (took_out i y.caller) y) t.2, subst (λ (y : View). Fits f law m good next faults begun i y.caller h) (sym now) t.3, t.4, t.6, t.7, ap (λ (y : View). knows_broken y.caller i) now ∙ t.8)
+      (t.0, t.1, now ∙ ap (λ (y : View). with_caller (took_out i y.caller) y) t.2, subst (λ (y : View). Fits f law m good next faults begun i y.caller h) (sym now) t.3, t.4, t.6, t.7, ap (λ (y : View). knows_broken y.caller i) now ∙ t.8, t.9)
 
 -- a store that is put back is known as it was given
 pub known_back : (i : ℕ) (b : Bool) (v : Caller) → (knows_broken v i ≡ true → b ≡ true) → b ≡ knows_broken (put_back i b v) i
@@ -85,6 +85,7 @@ module _ (f : Frame) (law : List Pair → Type 0) (m : List Pair) where
     t.5,
     t.6,
     t.7,
+    t.8,
   )
 
 -- a store that was given back is neither held nor out

@@ -57,13 +57,13 @@ module _ (f : Frame) (law : List Pair → Type 0) (m : List Pair) where
     abbrev pub Fits : ℕ → Caller → Home T → Type 0
     Fits i v h = h.broken ≡ None → good i h.store (owed f m v i) (owed_hard f m v i)
 
-    -- the lock and the store, whose mark and count were seen
+    -- the lock and the store, whose mark and count were seen; the kept count of a broken one has risen
     abbrev pub TookStore : ℕ → View → Home T → View → Type 0
-    TookStore i v h w = (log : List Entry) × Meets f law m v.caller log × (w ≡ with_mark i h.broken (with_count i (faults h.store) (with_caller (took_store f i (is_some h.broken) log v.caller) v))) × Fits i w.caller h × (noted i v.counts ≤ faults h.store) × (has i v.caller.out ≡ false) × (h.broken ≡ None → next h.store (length log)) × (begun i ≤ faults h.store) × (knows_broken w.caller i ≡ is_some h.broken)
+    TookStore i v h w = (log : List Entry) × Meets f law m v.caller log × (w ≡ with_mark i h.broken (with_count i (faults h.store) (with_caller (took_store f i (is_some h.broken) log v.caller) v))) × Fits i w.caller h × (noted i v.counts ≤ faults h.store) × (has i v.caller.out ≡ false) × (h.broken ≡ None → next h.store (length log)) × (begun i ≤ faults h.store) × (knows_broken w.caller i ≡ is_some h.broken) × ((n : ℕ) → h.broken ≡ Some n → Risen f begun n)
 
     -- the store is with the caller, who knows whether it is broken
     abbrev pub GotStore : ℕ → View → Home T → View → Type 0
-    GotStore i v h w = (log : List Entry) × Meets f law m v.caller log × (w ≡ with_mark i h.broken (with_count i (faults h.store) (with_caller (took_out i (took_store f i (is_some h.broken) log v.caller)) v))) × Fits i w.caller h × (noted i v.counts ≤ faults h.store) × (h.broken ≡ None → next h.store (length log)) × (begun i ≤ faults h.store) × (knows_broken w.caller i ≡ is_some h.broken)
+    GotStore i v h w = (log : List Entry) × Meets f law m v.caller log × (w ≡ with_mark i h.broken (with_count i (faults h.store) (with_caller (took_out i (took_store f i (is_some h.broken) log v.caller)) v))) × Fits i w.caller h × (noted i v.counts ≤ faults h.store) × (h.broken ≡ None → next h.store (length log)) × (begun i ≤ faults h.store) × (knows_broken w.caller i ≡ is_some h.broken) × ((n : ℕ) → h.broken ≡ Some n → Risen f begun n)
 
     abbrev pub taken_store : Step (Option (Home T)) → Me (Option (Home T)) View → ℕ → Me (Option (Home T)) View → Type 0
     taken_store st me n me' = (i : ℕ) → st.word ≡ store_lock f i + 1
