@@ -1,0 +1,10 @@
+pub mod Setting
+pub mod Calls
+pub mod Room
+pub mod OneKey
+pub mod Parts
+pub mod Passes
+pub mod Making
+pub mod Fates
+pub mod Closing
+pub mod Dbm

@@ -1,0 +1,19 @@
+//! Calls of a database that many threads share.
+#![tactic(auto)]
+
+mod answer;
+mod change;
+mod close;
+mod dbm;
+mod make;
+mod pass;
+mod passes;
+mod picked;
+mod process;
+mod read;
+
+pub use answer::Answer;
+pub use close::Closed;
+pub use dbm::Dbm;
+pub use pass::Pass;
+pub use tk_locks::StoreList;
