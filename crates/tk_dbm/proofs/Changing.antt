@@ -102,6 +102,11 @@ kept_at law stands store_view constants faults g writable e v n w may makes =
       records = λ q r. makes.1.still.records q r ∙ ap (λ (es : List Entry). find q (map_after g.frame (records_in g.frame.order store_view g.start) es)) (sym past_is);
     }
 
+-- a call that changes nothing needs no room
+pub needs_no_room : {T : Type 0} (stands : T → First → List Group → ℕ → Type 0) (store_view : T → StoreView) (constants : T → StoreConstants) (g : Ground T) (past : List Entry) (e : Entry)
+    → changes_of g.frame.order (map_after g.frame (records_in g.frame.order store_view g.start) past) e ≡ [] → AllHaveRoom stands store_view constants g past e
+needs_no_room stands store_view constants g past e none j low more = absurd (more (ap (filter (is_in_shard (shard g.frame j))) none))
+
 module _ {T : Type 0} (law : List Pair → Bool) (stands : T → First → List Group → ℕ → Type 0) (store_view : T → StoreView) (constants : T → StoreConstants) (faults : T → ℕ) (g : Ground T) (i : ℕ) where
   -- a store with the changes of a call that got its number
   pub made_ready : (reserved : T → List Change → Type 0) (e : Entry) (v x : View) (h : Home T) (n number : ℕ) → HasChanges law stands store_view constants faults g reserved i e v.caller h.store → IsOut law stands store_view constants faults g i v h → h.broken ≡ None

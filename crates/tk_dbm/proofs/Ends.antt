@@ -1,5 +1,7 @@
 -- How a call at one key ends, by what its parts tell.
-use Rattle.std.proofs.Common.{◌≡◌, ◌≢◌, ◌⊎◌, ◌==◌, ◌<◌, ◌≤◌, ◌&&◌, inl, inr, not, ℕ, Bool, true, false, cond, List, [], ◌∷◌, length, take, filter, Option, Some, None, IfOk, is_some, if◌then◌else◌, ◌+◌, ◌++◌, refl, sym, ap, ◌∙◌, subst, ⊎_elim, arith, eq-eqb}
+use Rattle.std.specs.Bool.{then_some}
+use Rattle.std.specs.Option.{option_copied}
+use Rattle.std.proofs.Common.{Bor, ◌≡◌, ◌≢◌, ◌⊎◌, ◌==◌, ◌<◌, ◌≤◌, ◌&&◌, inl, inr, not, ℕ, Bool, true, false, cond, List, [], ◌∷◌, length, take, filter, Option, Some, None, IfOk, is_some, if◌then◌else◌, ◌+◌, ◌++◌, refl, sym, ap, ◌∙◌, subst, ⊎_elim, arith, eq-eqb}
 use Rattle.std.proofs.lemmas.Bool.Decides.{nat_tests}
 use mathlib.Core.List.{IsPrefix}
 use Rattle.tk_status.specs.declared.Status.{Status}
@@ -32,7 +34,7 @@ use Rattle.tk_dbm.specs.Dbm.{AllKeepLaw}
 use Rattle.tk_dbm.proofs.OneKeys.{MayOne, may_commit}
 use Rattle.tk_dbm.proofs.Visits.{SaysNothing, no_store, stores_then, stores_between}
 
-short_stores : (a : Action) → stored (unless_long a) ≤ 16777215
+pub short_stores : (a : Action) → stored (unless_long a) ≤ 16777215
 short_stores a = go (is_long a) refl
   where
     go : (b : Bool) → is_long a ≡ b → stored (if b then Keep else a) ≤ 16777215
@@ -72,6 +74,20 @@ fit k was Keep key value = tt
 fit k was (Put v) key value = (key, value, tt)
 fit k (Some u) Drop key value = (key, tt)
 fit k None Drop key value = tt
+
+-- only a call that writes changes anything
+pub writes_if : (writable : Bool) (k : List ℕ) (was : Option (List ℕ)) (a : Action) → action_changes k was (unless_long (counted writable a)) ≢ [] → writable ≡ true
+writes_if true k was a any = refl
+writes_if false k was a any = absurd (any refl)
+
+-- the bytes that were read, where there is a value
+pub copied_then : {A : Type 0} (b : Bool) (x : Bor A) → option_copied (then_some b x) ≡ (if b then Some x.now else None)
+copied_then true x = refl
+copied_then false x = refl
+
+pub some_then : {A : Type 0} (b : Bool) (x : Bor A) → is_some (option_copied (then_some b x)) ≡ b
+some_then true x = refl
+some_then false x = refl
 
 module _ {P : Type 0} (acts : P → List ℕ → Option (List ℕ) → Action) (turns : P → List ℕ → Option (List ℕ) → P) (s : Setting)
     (full : List Entry → Entry → ℕ → ℕ → ℕ → Type 0) (room : List Entry → Entry → Type 0) (writable : Bool) (p : P) (k : List ℕ) (i : ℕ) (here : store_of s.frame k ≡ i) (low : i < s.frame.stores) where

@@ -10,12 +10,13 @@ ghost use Rattle.tk_dbm.specs.Parts.{MayVisit, Quiet, MadeNothing};
 ghost use Rattle.tk_dbm.specs.Setting.{uses_key};
 ghost use Rattle.tk_dbm.specs.Calls.{Ends, Called};
 ghost use Rattle.tk_dbm.specs.Room.{IsFull, AllHaveRoom};
-ghost use Rattle.tk_dbm.specs.OneKey.{key_entry, key_status, Turned};
+ghost use Rattle.tk_dbm.specs.OneKey.{key_entry, key_status, picked_entry, Turned};
 ghost use Rattle.tk_dbm.specs.Dbm.{its, setting, view, writes, IsPassAt, IsIdleOf, AllKeepLaw};
 
 use crate::answer::Answer;
 use crate::dbm::Dbm;
 use crate::pass::Pass;
+use crate::picked::Picked;
 use std::alloc::Global;
 use std::marker::Brand;
 use std::sync::Wait;
@@ -145,13 +146,13 @@ impl<S: SeqStore> Dbm<S> {
             p.old key.now (view pass.new) result.number p.new }
     {
         match self.read(rt, pass, i, key) {
-            Ok(found) => self.act(rt, pass, i, key, found, p, writable),
+            Ok(found) => self.act::<P, R, Brand>(rt, pass, i, key, found, p, writable),
             Err(answer) => answer,
         }
     }
 
     /// Asks the processor about the value that was read, and does what it answers.
-    fn act<P: RecordProcessor, R: Wait>(
+    fn act<P: RecordProcessor, R: Wait, J: Picked>(
         &self,
         rt: &R,
         pass: &mut Pass,
@@ -169,6 +170,9 @@ impl<S: SeqStore> Dbm<S> {
             ≡ true) }
         requires writes { writable ≡ true → writes self.now ≡ true }
         requires allowance { 0 < (view pass.old).caller.allowance }
+        requires entry { J.entry ≡ picked_entry P.acts P.turns
+            (setting S.lawful S.store_view S.fault_count self.now) writable p.old key.now i
+            (view pass.old).caller }
         requires value { (setting S.lawful S.store_view S.fault_count self.now).tells i ≡ true
             → if found then Some pass.old.room else None ≡ known (its self.now).frame
             (setting S.lawful S.store_view S.fault_count self.now).first (view pass.old).caller
@@ -199,9 +203,9 @@ impl<S: SeqStore> Dbm<S> {
             return self.give_up(pass);
         };
         if changes.is_empty() {
-            return self.keep::<Brand>(pass, status);
+            return self.keep::<J>(pass, status);
         }
-        self.change::<R, Brand>(rt, pass, i, &changes)
+        self.change::<R, J>(rt, pass, i, &changes)
     }
 
     /// Memory was wanting between two takings of the store.
