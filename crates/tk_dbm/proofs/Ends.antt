@@ -23,11 +23,11 @@ use Rattle.tk_core.specs.Covers.{Reads, store_of, stripe_lock}
 use Rattle.tk_core.specs.Lists.{has}
 use Rattle.tk_core.specs.Needs.{KeepsLaw, MayCommit}
 use Rattle.tk_core.specs.Rule.{IsLawful, known, map_after}
-use Rattle.tk_core.proofs.Facts.{by_bool}
+use Rattle.tk_core.proofs.Facts.{by_bool, prefix_self}
 use Rattle.tk_locks.specs.View.{View}
 use Rattle.tk_dbm.specs.declared.answer.Answer.{Answer}
 use Rattle.tk_dbm.specs.Setting.{Setting, records_at, records_seen, AllTell, uses_key}
-use Rattle.tk_dbm.specs.Calls.{Stores, Cause, HasNumber, Ends, has_place, is_system}
+use Rattle.tk_dbm.specs.Calls.{Stores, Cause, HasNumber, Ends, Called, has_place, is_system}
 use Rattle.tk_dbm.specs.OneKey.{one, key_entry, key_status, picked_entry}
 use Rattle.tk_dbm.specs.Parts.{Quiet, MadeNothing, MadeAt, MayStop, Rests, Stopped, MayChange, Changed}
 use Rattle.tk_dbm.specs.Dbm.{AllKeepLaw}
@@ -406,3 +406,33 @@ ends_between s full room writes uses status entry v v' w w' a before after seen 
     moved (statuses.Full size need limit) h = λ all. subst (λ (z : List Entry). full z (entry (map_after s.frame s.first z)) size need limit) (sym seen') (h all)
     moved statuses.Limit h = sym allowance ∙ h
     moved (statuses.TooLong length) h = h
+
+-- a call that was refused before it took a lock
+pub called_refused : (s : Setting) (full : List Entry → Entry → ℕ → ℕ → ℕ → Type 0) (room : List Entry → Entry → Type 0) (writes : Bool) (k : List ℕ) (status : List Pair → Status) (entry : List Pair → Entry) (v : View) (a : Answer) (st : Status)
+    → a ≡ record { status = st; number = None } → SaysNothing st → Cause s full writes (uses_key s k) entry v.caller v.caller st → v.caller.held ≡ [] → ((writes && not s.writable) ≡ true → st ≡ statuses.Precondition)
+    → ((writes && not s.writable) ≡ false → v.caller.allowance ≡ 0 → st ≡ statuses.Limit) → Called s full room writes (uses_key s k) status entry v a v
+called_refused s full room writes k status entry v a st is says cause idle refused limited = subst (λ (z : Answer). Called s full room writes (uses_key s k) status entry v z v) (sym is) (record {
+  ends = record {
+    stores = no_store s (store_of s.frame k) v v st says (record { counts = refl; marks = refl; broke = refl; met = refl });
+    made = λ n e. absurd (cc (e));
+    placed = λ n e. absurd (cc (e));
+    status_is = λ n e. absurd (cc (e));
+    had_room = λ n e. absurd (cc (e));
+    not_made = λ _. record { front = prefix_self v.caller.seen; mine = refl; allowance = refl; cause = cause };
+  };
+  refused = λ t. (refl, refused t);
+  limited = λ t z. (refl, limited t z);
+  idle = idle;
+})
+
+pub both_true : (a b : Bool) → a ≡ true → b ≡ true → (a && b) ≡ true
+both_true true b x y = y
+both_true false b x y = absurd (cc (x))
+
+pub first_false : (a b : Bool) → a ≡ false → (a && b) ≡ false
+first_false true b x = absurd (cc (x))
+first_false false b x = refl
+
+pub second_false : (a b : Bool) → b ≡ false → (a && b) ≡ false
+second_false true b x = x
+second_false false b x = refl

@@ -56,7 +56,7 @@ either : (b : Bool) (i : ℕ) (xs : List ℕ) → cond b (i ∷ xs) xs ≡ cond 
 either true i xs = refl
 either false i xs = refl
 
-taken_back : (b : Bool) (i : ℕ) → without i (cond b (i ∷ []) []) ≡ []
+pub taken_back : (b : Bool) (i : ℕ) → without i (cond b (i ∷ []) []) ≡ []
 taken_back true i = ap (λ (z : Bool). cond z (without i []) (i ∷ without i [])) (eq-eqb i i refl)
 taken_back false i = refl
 
