@@ -272,7 +272,9 @@ module _ {P : Type 0} (acts : P → List ℕ → Option (List ℕ) → Action) (
 
       pub may_change : MayChange s picked i cs v.caller
       may_change = record {
-        key = k; was = was; action = action;
+        key = k;
+        was = was;
+        action = action;
         entry = picked_is;
         here = here;
         allowance = allowance;
@@ -312,7 +314,13 @@ module _ {P : Type 0} (acts : P → List ℕ → Option (List ℕ) → Action) (
       ends_kept w a n none is quiet t free = subst (λ (z : Answer). Ends s full room writable U St E v z w) (sym is) (record {
         stores = stores_as v w (status_unless_long (counted writable (acts p k read))) (no_store s i v w (status_unless_long (counted writable (acts p k read))) (nothing_said (counted writable (acts p k read))) quiet);
         made = λ q e. subst (λ (z : ℕ). HasNumber s U E v.caller w.caller z) (same_number n q e) (record {
-          call = picked; front = t.front; seen = t.seen; place = t.place; lawful = t.lawful; mine = t.mine; allowance = t.allowance;
+          call = picked;
+          front = t.front;
+          seen = t.seen;
+          place = t.place;
+          lawful = t.lawful;
+          mine = t.mine;
+          allowance = t.allowance;
           entry_is = picked_then (records_at s w.caller n) (same_at w n t);
         });
         placed = λ q e. place_of_status (counted writable (acts p k read));
@@ -331,7 +339,13 @@ module _ {P : Type 0} (acts : P → List ℕ → Option (List ℕ) → Action) (
       ends_changed w a some t = record {
         stores = stores_as v w a.status t.stores;
         made = λ n e. let q = t.made n e in record {
-          call = picked; front = q.front; seen = q.seen; place = q.place; lawful = q.lawful; mine = q.mine; allowance = q.allowance;
+          call = picked;
+          front = q.front;
+          seen = q.seen;
+          place = q.place;
+          lawful = q.lawful;
+          mine = q.mine;
+          allowance = q.allowance;
           entry_is = picked_then (records_at s w.caller n) (same_at w n q);
         };
         placed = λ n e. placed_by a.status (t.ended n e);
@@ -340,7 +354,9 @@ module _ {P : Type 0} (acts : P → List ℕ → Option (List ℕ) → Action) (
             (λ (bad : is_system a.status ≡ true). inr bad) (t.ended n e);
         had_room = λ n e all. subst (room (take n w.caller.seen)) (picked_then (records_at s w.caller n) (same_at w n (t.made n e)) all) (t.had_room n e (tells_here all));
         not_made = λ none. let q = t.not_made none in record {
-          front = q.0.front; mine = q.0.mine; allowance = q.0.allowance;
+          front = q.0.front;
+          mine = q.0.mine;
+          allowance = q.0.allowance;
           cause = full_cause picked v.caller w.caller a.status (picked_then (records_seen s w.caller) (q.0.records k (inl stripe))) q.1;
         };
       }

@@ -145,8 +145,14 @@ module _ (s : Setting) (i : ℕ) where
   -- the store was whole and stayed so
   pub stayed_whole : (n k : ℕ) (v x w : View) (st : Status) → SaysNothing st → Visited i None None n k v x w → Stores s own v st w
   stayed_whole n k v x w st z t = record {
-    counts = (i, k) ∷ (i, n) ∷ []; marks = (i, None) ∷ (i, None) ∷ []; more = []; found = [];
-    counts_are = t.counts; marks_are = t.marks; broke_is = t.broke; met_is = t.met;
+    counts = (i, k) ∷ (i, n) ∷ [];
+    marks = (i, None) ∷ (i, None) ∷ [];
+    more = [];
+    found = [];
+    counts_are = t.counts;
+    marks_are = t.marks;
+    broke_is = t.broke;
+    met_is = t.met;
     own = λ j h. own_alone i j k n None None false false h;
     by_status = says_nothing ((i, k) ∷ (i, n) ∷ []) ((i, None) ∷ (i, None) ∷ []) [] [] st z (refl, refl);
   }
@@ -154,8 +160,14 @@ module _ (s : Setting) (i : ℕ) where
   -- the store was found broken
   pub was_broken : (n k faults : ℕ) (v x w : View) → Risen s.frame s.begun faults → Visited i (Some faults) (Some faults) n k v x w → Stores s own v (statuses.Broken faults) w
   was_broken n k faults v x w risen t = record {
-    counts = (i, k) ∷ (i, n) ∷ []; marks = (i, Some faults) ∷ (i, Some faults) ∷ []; more = []; found = i ∷ [];
-    counts_are = t.counts; marks_are = t.marks; broke_is = t.broke; met_is = t.met;
+    counts = (i, k) ∷ (i, n) ∷ [];
+    marks = (i, Some faults) ∷ (i, Some faults) ∷ [];
+    more = [];
+    found = i ∷ [];
+    counts_are = t.counts;
+    marks_are = t.marks;
+    broke_is = t.broke;
+    met_is = t.met;
     own = λ j h. own_alone i j k n (Some faults) (Some faults) false true h;
     by_status = record {
       store = i;
@@ -170,8 +182,14 @@ module _ (s : Setting) (i : ℕ) where
   -- the store failed
   pub has_failed : (n faults : ℕ) (v x w : View) → Rose n faults → Visited i None (Some faults) n faults v x w → Stores s own v (statuses.System faults) w
   has_failed n faults v x w rose t = record {
-    counts = (i, faults) ∷ (i, n) ∷ []; marks = (i, Some faults) ∷ (i, None) ∷ []; more = i ∷ []; found = [];
-    counts_are = t.counts; marks_are = t.marks; broke_is = t.broke; met_is = t.met;
+    counts = (i, faults) ∷ (i, n) ∷ [];
+    marks = (i, Some faults) ∷ (i, None) ∷ [];
+    more = i ∷ [];
+    found = [];
+    counts_are = t.counts;
+    marks_are = t.marks;
+    broke_is = t.broke;
+    met_is = t.met;
     own = λ j h. own_alone i j faults n (Some faults) None true false h;
     by_status = record {
       store = i;
@@ -251,7 +269,10 @@ module _ (s : Setting) (i : ℕ) where
   -- a visit after one that left the store whole
   pub stores_then : (v w x : View) (st : Status) → Stores s own v statuses.Success w → Stores s own w st x → Stores s own v st x
   stores_then v w x st a b = record {
-    counts = b.counts ++ a.counts; marks = b.marks ++ a.marks; more = b.more; found = b.found;
+    counts = b.counts ++ a.counts;
+    marks = b.marks ++ a.marks;
+    more = b.more;
+    found = b.found;
     counts_are = append_more w.counts v.counts x.counts b.counts a.counts b.counts_are a.counts_are;
     marks_are = append_more w.marks v.marks x.marks b.marks a.marks b.marks_are a.marks_are;
     broke_is = b.broke_is ∙ ap (λ z. b.more ++ z) (a.broke_is ∙ ap (λ z. z ++ v.caller.broke) a.by_status.0);
@@ -280,8 +301,14 @@ module _ (s : Setting) (i : ℕ) where
   -- no store was met
   pub no_store : (v w : View) (st : Status) → SaysNothing st → Quiet v w → Stores s own v st w
   no_store v w st z q = record {
-    counts = []; marks = []; more = []; found = [];
-    counts_are = q.counts; marks_are = q.marks; broke_is = q.broke; met_is = q.met;
+    counts = [];
+    marks = [];
+    more = [];
+    found = [];
+    counts_are = q.counts;
+    marks_are = q.marks;
+    broke_is = q.broke;
+    met_is = q.met;
     own = λ j h. absurd (cc (h));
     by_status = says_nothing [] [] [] [] st z (refl, refl);
   }
@@ -289,7 +316,10 @@ module _ (s : Setting) (i : ℕ) where
 -- steps beside a visit
 pub stores_between : (s : Setting) (uses : ℕ → Bool) (v v' w w' : View) (st : Status) → Quiet v v' → Quiet w w' → Stores s uses v' st w → Stores s uses v st w'
 stores_between s uses v v' w w' st p q t = record {
-  counts = t.counts; marks = t.marks; more = t.more; found = t.found;
+  counts = t.counts;
+  marks = t.marks;
+  more = t.more;
+  found = t.found;
   counts_are = q.counts ∙ t.counts_are ∙ ap (λ z. t.counts ++ z) p.counts;
   marks_are = q.marks ∙ t.marks_are ∙ ap (λ z. t.marks ++ z) p.marks;
   broke_is = q.broke ∙ t.broke_is ∙ ap (λ z. t.more ++ z) p.broke;

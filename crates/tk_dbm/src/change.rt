@@ -76,13 +76,7 @@ impl<S: SeqStore> Dbm<S> {
     }
 
     /// Makes the reserved group in the store while it is out.
-    fn apply(
-        &self,
-        pass: &Pass,
-        i: u32,
-        home: &mut Home<S>,
-        number: u64,
-    ) -> Result<(), StoreError>
+    fn apply(&self, pass: &Pass, i: u32, home: &mut Home<S>, number: u64) -> Result<(), StoreError>
         requires fresh { Fresh S.lawful S.stands S.store_view S.constants (its self.now).frame
             (its self.now).start }
         requires whole { home.old.broken ≡ None }

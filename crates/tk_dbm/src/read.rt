@@ -49,8 +49,10 @@ impl<S: SeqStore> Dbm<S> {
         requires rose { Rose (noted i (view pass.old).counts) (S.fault_count home.store)
             × (noted i (view pass.old).counts ≤ S.fault_count home.store) }
         ensures own { IsPassOf self.now.table pass.new.token }
-        ensures answer { result ≡ record { status = System (S.fault_count home.store);
-            number = None } }
+        ensures answer { result ≡ record {
+          status = System (S.fault_count home.store);
+          number = None;
+        } }
         ensures step { GaveUp S.lawful S.stands S.store_view S.constants S.fault_count
             (its self.now) i (view pass.old)
             (record { store = home.store; broken = Some (S.fault_count home.store) })

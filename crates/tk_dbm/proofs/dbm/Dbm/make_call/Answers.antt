@@ -22,7 +22,7 @@ give_store-requires-clause-stays g c =
     let step = c.commit-number.ensures.step in
     let unmarked : marked c.args.i (view_of c.commit-number.new.pass).marks ≡ None = ap (λ (z : View). marked c.args.i z.marks) step.5 ∙ c.requires.whole.1 in
     elim c.match-made.branch [
-      in-Ok w ↦ subst (λ (z : Home _). MayMark (its c.args.self.now).frame (count_at g.S.SeqStore.fault_count (its c.args.self.now).start) c.args.i (view_of c.commit-number.new.pass) z.broken) (sym w.home-is)
+      | in-Ok w ↦ subst (λ (z : Home _). MayMark (its c.args.self.now).frame (count_at g.S.SeqStore.fault_count (its c.args.self.now).start) c.args.i (view_of c.commit-number.new.pass) z.broken) (sym w.home-is)
           (subst (MayMark (its c.args.self.now).frame (count_at g.S.SeqStore.fault_count (its c.args.self.now).start) c.args.i (view_of c.commit-number.new.pass)) (sym c.apply-made.ensures.whole)
           (may_stay (its c.args.self.now).frame (count_at g.S.SeqStore.fault_count (its c.args.self.now).start) c.args.i (view_of c.commit-number.new.pass) unmarked))
       | in-Err w ↦ subst (λ (z : Home _). MayMark (its c.args.self.now).frame (count_at g.S.SeqStore.fault_count (its c.args.self.now).start) c.args.i (view_of c.commit-number.new.pass) z.broken) (sym w.home-is)
@@ -40,12 +40,12 @@ returns-clause-made g c = record {
   home = c.match-made.home;
   gave = c.give_store.ensures.step;
   how = elim c.match-made.branch [
-    in-Ok w ↦ inl (ap (λ z. z.broken) w.home-is ∙ c.apply-made.ensures.whole, w.status-is)
+    | in-Ok w ↦ inl (ap (λ z. z.broken) w.home-is ∙ c.apply-made.ensures.whole, w.status-is)
     | in-Err w ↦ inr (
       ap (λ z. z.broken) w.home-is ∙ ap Some w.faults-faults.ensures ∙ ap (λ z. Some (g.S.SeqStore.fault_count z.store)) (sym w.home-is),
       w.status-is ∙ ap System (w.faults-faults.ensures ∙ ap (λ z. g.S.SeqStore.fault_count z.store) (sym w.home-is)),
       (let r = fault_only (g.S.SeqStore.fault_count c.args.home.store) (g.S.SeqStore.fault_count c.apply-made.new.home.store) c.apply-made.result _ w.in-Err.is c.apply-made.ensures.answers c.apply-made.ensures.cause in
-      let e = ap (λ z. g.S.SeqStore.fault_count z.store) w.home-is in let q = c.requires.out.counted in omega arith),
+          let e = ap (λ z. g.S.SeqStore.fault_count z.store) w.home-is in let q = c.requires.out.counted in omega arith),
     )
   ];
 }

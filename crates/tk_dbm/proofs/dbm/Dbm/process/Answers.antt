@@ -22,7 +22,7 @@ returns-then-not-self-clause-called g c =
 pub returns-then-allowance-eq0-clause-called : goal.returns-then-allowance-eq0-clause-called
 returns-then-allowance-eq0-clause-called g c =
     let never : (c.args.writable && not c.args.self.now.writable) ≡ false = (elim c.else-writable.branch [
-      else-writable-via-then-writable+else-not-self w ↦ second_false c.args.writable (not c.args.self.now.writable) (ap not w.if-not-self.false)
+      | else-writable-via-then-writable+else-not-self w ↦ second_false c.args.writable (not c.args.self.now.writable) (ap not w.if-not-self.false)
       | else-writable-via-else-writable w ↦ first_false c.args.writable (not c.args.self.now.writable) w.if-writable.false
     ]) in
     called_refused (setting g.S.SeqStore.lawful g.S.SeqStore.store_view g.S.SeqStore.fault_count c.args.self.now) (IsFull g.S.SeqStore.stands g.S.SeqStore.store_view g.S.SeqStore.constants (its c.args.self.now)) (AllHaveRoom g.S.SeqStore.stands g.S.SeqStore.store_view g.S.SeqStore.constants (its c.args.self.now)) c.args.writable c.args.key.now (key_status g.P.RecordProcessor.acts g.P.RecordProcessor.turns (setting g.S.SeqStore.lawful g.S.SeqStore.store_view g.S.SeqStore.fault_count c.args.self.now) c.args.writable c.args.p.now c.args.key.now) (key_entry g.P.RecordProcessor.acts g.P.RecordProcessor.turns (setting g.S.SeqStore.lawful g.S.SeqStore.store_view g.S.SeqStore.fault_count c.args.self.now) c.args.writable c.args.p.now c.args.key.now) (view c.args.pass.now) c.refused-then-allowance-eq0.result statuses.Limit
@@ -31,7 +31,7 @@ returns-then-allowance-eq0-clause-called g c =
 pub returns-clause-called : goal.returns-clause-called
 returns-clause-called g c =
     let never : (c.args.writable && not c.args.self.now.writable) ≡ false = (elim c.else-writable.branch [
-      else-writable-via-then-writable+else-not-self w ↦ second_false c.args.writable (not c.args.self.now.writable) (ap not w.if-not-self.false)
+      | else-writable-via-then-writable+else-not-self w ↦ second_false c.args.writable (not c.args.self.now.writable) (ap not w.if-not-self.false)
       | else-writable-via-else-writable w ↦ first_false c.args.writable (not c.args.self.now.writable) w.if-writable.false
     ]) in
     let took = c.take_stripe.ensures.step.2 in
