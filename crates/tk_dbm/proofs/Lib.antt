@@ -1,0 +1,4 @@
+pub mod Closing
+pub mod Fates
+pub mod Looks
+pub mod Making

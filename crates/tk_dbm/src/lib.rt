@@ -1,0 +1,14 @@
+//! Calls of a database that many threads share.
+#![tactic(auto)]
+
+mod close;
+mod dbm;
+mod ending;
+mod make;
+mod pass;
+mod passes;
+
+pub use close::Closed;
+pub use dbm::Dbm;
+pub use pass::Pass;
+pub use tk_locks::StoreList;
