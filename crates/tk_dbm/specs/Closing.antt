@@ -48,7 +48,7 @@ module _ {T : Type 0} (law : List Pair → Bool) (stands : T → First → List 
     pub ended : (store_view x).ended ≡ ended_by (constants x) (next_after log)
 
   -- memory was wanting: the store i stands for its groups, and its file wasn't ended
-  pub record IsKept (log : List Entry) (i : ℕ) (x : T) : Type 0 where
+  pub record IsUnended (log : List Entry) (i : ℕ) (x : T) : Type 0 where
     pub shut : IsShut i x
     pub stands_now : is_some (store_view x).map ≡ true → (first : First) → Began stands g.start i first → (hard : ℕ) × (safe_in log i ≤ hard) × stands x first (groups_in log i) hard
     pub whole : (first : First) × (since : List Group) × (hard : ℕ) × stands x first since hard
@@ -69,7 +69,7 @@ module _ {T : Type 0} (law : List Pair → Bool) (stands : T → First → List 
   HasFate log v i (Spoilt kept) x = Risen g.frame (count_at faults g.start) kept
   HasFate log v i Ended x = IsEnded log i x
   HasFate log v i (Faulted n) x = HasFailed v i n x
-  HasFate log v i Wanted x = IsKept log i x
+  HasFate log v i Wanted x = IsUnended log i x
 
   -- a store that came back: which it is, and what became of it
   pub record CameBack (log : List Entry) (v : View) (i : ℕ) (fate : Fate) (x : T) : Type 0 where
@@ -90,7 +90,7 @@ module _ {T : Type 0} (law : List Pair → Bool) (stands : T → First → List 
     pub there : (i : ℕ) → i < g.frame.stores → slice_get places i ≡ Some i
     pub broke : (i : ℕ) (fate : Fate) → slice_get fs i ≡ Some fate → count i v.caller.broke ≡ cond (is_spoilt fate) 1 0
 
-  -- Each store that lay at home came back, in order, and was ended unless it was broken. The status tells the first failure.
+  -- The stores that came back stand in order, and each was ended unless it was broken. The status tells the first failure.
   pub record IsClosed (v : View) (c : Closed T) : Type 0 where
     pub log : List Entry
     pub calls : c.calls ≡ length log

@@ -38,13 +38,13 @@ module _ {T : Type 0} (stands : T → First → List Group → ℕ → Type 0) (
     pub later : faults x ≤ faults y
 
   -- it stands for all that it stood for, with the mark of its end, and all of it is safe
-  abbrev pub Settles : T → T → Type 0
-  Settles x y = (first : First) (since : List Group) (hard : ℕ) → stands x first since hard → stands y first (since ++ groups_made_by (constants x) next []) (length (since ++ groups_made_by (constants x) next []))
+  abbrev pub StandsEnded : T → T → Type 0
+  StandsEnded x y = (first : First) (since : List Group) (hard : ℕ) → stands x first since hard → stands y first (since ++ groups_made_by (constants x) next []) (length (since ++ groups_made_by (constants x) next []))
 
   -- a store that isn't broken
   abbrev pub Closes : T → Fate → T → Type 0
   Closes x (Spoilt kept) y = ⊥
-  Closes x Ended y = Shuts x y × Settles x y × ((store_view y).ended ≡ ended_by (constants x) next)
+  Closes x Ended y = Shuts x y × StandsEnded x y × ((store_view y).ended ≡ ended_by (constants x) next)
   Closes x (Faulted n) y = Shuts x y × Rose (faults x) (faults y) × (faults y ≡ n) × ((store_view y).ended ≡ None)
   Closes x Wanted y = Shuts x y × Keeps stands x y × ((store_view y).ended ≡ None)
 
