@@ -4,3 +4,7 @@ pub mod Visits
 pub mod Changing
 pub mod Reserving
 pub mod Ends
+pub mod Closing
+pub mod Fates
+pub mod Looks
+pub mod Making

@@ -1,7 +1,5 @@
 -- A database and its passes, by what they show.
-use Rattle.std.specs.Prelude.{◌≡◌, ◌≤◌, ◌<◌, ◌^◌, ℕ, Bool, true, List, [], map, length, Option, Some, None}
-use mathlib.Core.Option.{some}
-use lib.ListN.{get_elem?}
+use Rattle.std.specs.Prelude.{◌≡◌, ℕ, Bool, true, List, []}
 use Rattle.tk_model.specs.declared.record.Pair.{Pair}
 use Rattle.tk_model.specs.declared.record.Entry.{Entry}
 use Rattle.tk_model.specs.declared.record.Group.{Group}

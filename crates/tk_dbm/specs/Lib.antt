@@ -6,5 +6,6 @@ pub mod Parts
 pub mod Passes
 pub mod Making
 pub mod Fates
+pub mod Ending
 pub mod Closing
 pub mod Dbm

@@ -4,7 +4,6 @@ use Rattle.tk_model.specs.declared.record.Pair.{Pair}
 use Rattle.tk_model.specs.declared.record.Group.{Group}
 use Rattle.tk_store.specs.Store.{First, StoreView, StoreConstants}
 use Rattle.tk_core.specs.Covers.{IsFrame}
-use Rattle.tk_core.specs.declared.frame.Frame.{Frame}
 use Rattle.tk_locks.specs.Homes.{homes_of}
 use Rattle.tk_locks.specs.Made.{Fresh, frame_of}
 use Rattle.tk_locks.specs.Rule.{Ground}

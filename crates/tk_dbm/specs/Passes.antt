@@ -1,8 +1,7 @@
 -- What a look and a join tell.
-use Rattle.std.specs.Prelude.{◌≡◌, ◌⊎◌, ◌+◌, ℕ, true, [], ◌++◌, length}
+use Rattle.std.specs.Prelude.{◌≡◌, ◌⊎◌, ◌+◌, ℕ, true, ◌++◌, length}
 use mathlib.Core.List.{IsPrefix}
 use Rattle.tk_core.specs.Rule.{IsLawful}
-use Rattle.tk_core.specs.Caller.{weight}
 use Rattle.tk_locks.specs.View.{View}
 use Rattle.tk_dbm.specs.Setting.{Setting}
 

@@ -5,6 +5,7 @@ mod answer;
 mod change;
 mod close;
 mod dbm;
+mod ending;
 mod make;
 mod pass;
 mod passes;

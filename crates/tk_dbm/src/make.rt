@@ -12,7 +12,8 @@ use tk_locks::{LockTable, StoreList};
 use tk_store::SeqStore;
 
 impl<S: SeqStore + Drop> Dbm<S> {
-    /// A database of these stores, and the pass that has the whole allowance. At `Err` there was no memory, and the stores come back.
+    /// A database of these stores, and the pass that has the whole allowance. At `Err` there was no
+    /// memory, and the stores come back.
     pub fn make(
         alloc: Global,
         stores: StoreList<S>,

@@ -10,12 +10,14 @@ use Rattle.tk_model.specs.declared.record.Pair.{Pair}
 use Rattle.tk_model.specs.declared.record.Group.{Group}
 use Rattle.tk_store.specs.Store.{First, StoreView, StoreConstants}
 use Rattle.tk_core.specs.declared.frame.Frame.{Frame}
+use Rattle.tk_core.specs.Caller.{Caller}
 use Rattle.tk_core.specs.Covers.{IsFrame, store_lock}
 use Rattle.tk_core.specs.Steps.{first_caller}
 use Rattle.tk_core.proofs.Runs.{starts}
 use Rattle.tk_core.proofs.Stores.{stands_anew}
 use Rattle.tk_core.proofs.Programs.{all_same}
 use Rattle.tk_core.proofs.Halves.{knows_all}
+use Rattle.tk_core.proofs.Facts.{total_sum}
 use Rattle.tk_locks.specs.declared.home.Home.{Home}
 use Rattle.tk_locks.specs.View.{View, first_view}
 use Rattle.tk_locks.specs.Rule.{mark, callers_of, Ground, records_in, count_at, good_of, Standing, Counts, RuleOf, Rule}
@@ -137,6 +139,8 @@ module _ (T : Type 0) (law : List Pair → Type 0) (m : List Pair) (good : ℕ �
         log = r.log;
         lawful = r.sound.history;
         calls_are = ap (λ ws. get_or ws 0 0) (sym same_words) ∙ r.shows.count;
+        few = let a = total_sum (λ (u : Caller). u.allowance) (λ (u : Caller). length u.mine) (callers_of s.views) in let b = r.sound.made in let d = r.sound.weights in
+            let e = ap (λ ws. get_or ws 0 0) (sym same_words) in let n = r.shows.count in omega arith;
         seen = k.seen;
         placed = k.placed;
         places = places_from 0 ys;

@@ -60,6 +60,7 @@ pub record AtEnd {T : Type 0} (f : Frame) (law : List Pair → Type 0) (m : List
   pub log : List Entry
   pub lawful : IsLawful f law m log
   pub calls_are : calls ≡ length log
+  pub few : calls ≤ 2 ^ 62
   pub seen : IsPrefix v.caller.seen log
   pub placed : InPlace log v.caller.mine
   pub places : List ℕ
