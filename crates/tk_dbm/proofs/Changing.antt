@@ -1,5 +1,5 @@
 -- A call at one key whose store is out: what it needs, and what becomes of it.
-use Rattle.std.proofs.Common.{◌≡◌, ◌≢◌, ◌+◌, ◌<◌, ◌≤◌, ◌==◌, ◌⊎◌, ◌^◌, inl, inr, ℕ, zero, suc, Bool, true, false, List, [], ◌∷◌, ◌++◌, length, length-append, take, filter, Option, Some, None, Result, Ok, Err, is_some, refl, sym, ap, ◌∙◌, subst, ⊎_elim, arith}
+use Rattle.std.proofs.Common.{◌≡◌, ◌≢◌, ◌+◌, ◌<◌, ◌≤◌, ◌==◌, ◌⊎◌, inl, inr, ℕ, zero, suc, Bool, true, false, List, [], ◌∷◌, ◌++◌, length, length-append, take, filter, Option, Some, None, Result, Ok, Err, is_some, refl, sym, ap, ◌∙◌, subst, ⊎_elim, arith}
 use mathlib.Core.List.{IsPrefix}
 use Rattle.tk_status.specs.declared.Status.{Status}
 use Rattle.tk_status.specs.declared.Status.TheVariants as statuses
@@ -15,23 +15,22 @@ use Rattle.tk_store.specs.declared.error.StoreError.{StoreError}
 use Rattle.tk_store.specs.declared.error.StoreError.TheVariants as errors
 use Rattle.tk_store.specs.Store.{First, StoreView, StoreConstants, HasCause, OkOrFault, HasRoom, TellsFull, PassesLimit, PassesLog}
 use Rattle.tk_core.specs.declared.frame.Frame.{Frame}
-use Rattle.tk_core.specs.Caller.{Caller, weight, knows_broken}
+use Rattle.tk_core.specs.Caller.{knows_broken}
 use Rattle.tk_core.specs.Covers.{IsFrame, Reads, CoversReads, store_of, store_lock, stripe_lock}
-use Rattle.tk_core.specs.Lists.{has, AllBelow}
+use Rattle.tk_core.specs.Lists.{has}
 use Rattle.tk_core.specs.Moves.{looked, committed}
 use Rattle.tk_core.specs.Needs.{KeepsLaw, MayCommit}
-use Rattle.tk_core.specs.Rule.{IsLawful, is_hard, known, map_after, shard, owed, owed_hard, groups_of, hard_groups}
+use Rattle.tk_core.specs.Rule.{IsLawful, is_hard, known, map_after, shard, groups_of, hard_groups}
 use Rattle.tk_core.proofs.Calls.{call_alike}
 use Rattle.tk_core.proofs.Facts.{by_test, has_head, has_tail, prefix_self}
 use Rattle.tk_locks.specs.declared.home.Home.{Home}
-use Rattle.tk_locks.specs.View.{View, noted, marked, with_caller, with_count, with_mark}
-use Rattle.tk_locks.specs.Rule.{Ground, records_in, good_of, next_fits, count_at, Risen}
+use Rattle.tk_locks.specs.View.{View, noted, marked, with_caller}
+use Rattle.tk_locks.specs.Rule.{Ground, records_in, good_of, count_at}
 use Rattle.tk_locks.specs.Steps.{Meets, GaveStore, Committed, MayMark}
 use Rattle.tk_locks.specs.Tells.{TakesStore, MayMake, Makes}
-use Rattle.tk_locks.proofs.Facts.{prefix_length, marked_head, noted_head, take_whole}
+use Rattle.tk_locks.proofs.Facts.{prefix_length, marked_head, noted_head}
 use Rattle.tk_dbm.specs.declared.answer.Answer.{Answer}
 use Rattle.tk_dbm.specs.Calls.{Stores, is_system}
-use Rattle.tk_dbm.specs.OneKey.{one}
 use Rattle.tk_dbm.specs.Parts.{IsOut, IsReady, HasChanges, GaveUp, Rests, Stopped, MayStop, MayVisit, MadeNothing, MadeAt, MadeThere, MayChange, Changed}
 use Rattle.tk_dbm.specs.Setting.{Setting, setting_of}
 use Rattle.tk_dbm.specs.Room.{IsAfter, HasRoomAt, AllHaveRoom, IsFull, changes_on}

@@ -1,7 +1,7 @@
 -- How a call at one key ends, by what its parts tell.
 use Rattle.std.specs.Bool.{then_some}
 use Rattle.std.specs.Option.{option_copied}
-use Rattle.std.proofs.Common.{Bor, ◌≡◌, ◌≢◌, ◌⊎◌, ◌==◌, ◌<◌, ◌≤◌, ◌&&◌, inl, inr, not, ℕ, Bool, true, false, cond, List, [], ◌∷◌, length, take, filter, Option, Some, None, IfOk, is_some, if◌then◌else◌, ◌+◌, ◌++◌, refl, sym, ap, ◌∙◌, subst, ⊎_elim, arith, eq-eqb}
+use Rattle.std.proofs.Common.{Bor, ◌≡◌, ◌≢◌, ◌⊎◌, ◌==◌, ◌<◌, ◌≤◌, ◌&&◌, inl, inr, not, ℕ, Bool, true, false, cond, List, [], ◌∷◌, length, take, Option, Some, None, is_some, if◌then◌else◌, ◌+◌, ◌++◌, refl, sym, ap, ◌∙◌, subst, ⊎_elim, arith, eq-eqb}
 use Rattle.std.proofs.lemmas.Bool.Decides.{nat_tests}
 use mathlib.Core.List.{IsPrefix}
 use Rattle.tk_status.specs.declared.Status.{Status}
@@ -19,7 +19,7 @@ use Rattle.tk_proc.specs.Runs.{counted, is_long, unless_long, status_unless_long
 use Rattle.tk_proc.proofs.LegalRuns.{one_key_changes}
 use Rattle.tk_store.specs.Store.{AllFitWithin}
 use Rattle.tk_core.specs.Caller.{Caller}
-use Rattle.tk_core.specs.Covers.{Reads, store_of, stripe_lock}
+use Rattle.tk_core.specs.Covers.{store_of, stripe_lock}
 use Rattle.tk_core.specs.Lists.{has}
 use Rattle.tk_core.specs.Needs.{KeepsLaw, MayCommit}
 use Rattle.tk_core.specs.Rule.{IsLawful, known, map_after}
@@ -31,7 +31,7 @@ use Rattle.tk_dbm.specs.Calls.{Stores, Cause, HasNumber, Ends, Called, has_place
 use Rattle.tk_dbm.specs.OneKey.{one, key_entry, key_status, picked_entry}
 use Rattle.tk_dbm.specs.Parts.{Quiet, MadeNothing, MadeAt, MayStop, Rests, Stopped, MayChange, Changed}
 use Rattle.tk_dbm.specs.Dbm.{AllKeepLaw}
-use Rattle.tk_dbm.proofs.OneKeys.{MayOne, may_commit}
+use Rattle.tk_dbm.proofs.OneKeys.{may_commit}
 use Rattle.tk_dbm.proofs.Visits.{SaysNothing, no_store, stores_then, stores_between}
 
 pub short_stores : (a : Action) → stored (unless_long a) ≤ 16777215

@@ -1,8 +1,8 @@
 -- What a store that is good for a history answers, and what a call makes of it.
-use Rattle.std.proofs.Common.{◌≡◌, ◌≢◌, ℕ, zero, suc, ◌+◌, ◌<◌, ◌≤◌, ◌^◌, Bool, true, false, List, [], ◌∷◌, ◌++◌, length, filter, Option, Some, None, IfSome, Result, Ok, Err, IfOk, OnOk, is_some, if◌then◌else◌, refl, sym, ap, ◌∙◌, subst, arith, eq-eqb}
+use Rattle.std.proofs.Common.{◌≡◌, ◌≢◌, ℕ, zero, suc, ◌+◌, ◌<◌, ◌≤◌, Bool, true, false, List, [], ◌∷◌, ◌++◌, length, filter, Option, Some, None, IfSome, Result, IfOk, is_some, if◌then◌else◌, refl, sym, ap, ◌∙◌, subst, arith, eq-eqb}
 use mathlib.Core.Option.{some, some-injective, some-ne-none}
 use lib.ListN.{get_elem?}
-use Rattle.tk_model.specs.Records.{find, replay, Rising}
+use Rattle.tk_model.specs.Records.{find, replay}
 use Rattle.tk_model.specs.Entries.{changes_of, is_in_shard, shard_records, holds_key, group_of}
 use Rattle.tk_model.specs.declared.record.Pair.{Pair}
 use Rattle.tk_model.specs.declared.record.Group.{Group}
@@ -11,8 +11,7 @@ use Rattle.tk_model.specs.declared.record.Entry.{Entry}
 use Rattle.tk_model.specs.declared.record.Order.{Order}
 use Rattle.tk_model.proofs.Shards.{shard_find, parts_reach, parts_more}
 use Rattle.tk_store.specs.declared.error.StoreError.{StoreError}
-use Rattle.tk_store.specs.declared.error.StoreError.TheVariants as errors
-use Rattle.tk_store.specs.Store.{First, StoreView, StoreConstants, groups_made_by, IsWhole, Keeps, Gives, SameContents, UnlessFault, floor_after}
+use Rattle.tk_store.specs.Store.{First, StoreView, StoreConstants, groups_made_by, IsWhole, Keeps, Gives, floor_after}
 use Rattle.tk_core.specs.declared.frame.Frame.{Frame}
 use Rattle.tk_core.specs.Covers.{store_of}
 use Rattle.tk_core.specs.Rule.{map_after, shard, groups_of, hard_groups, is_hard}

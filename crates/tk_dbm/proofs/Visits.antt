@@ -1,5 +1,5 @@
 -- What a pass knows after a store was taken and given back.
-use Rattle.std.proofs.Common.{◌≡◌, ◌≢◌, ◌||◌, ◌&&◌, ◌==◌, ◌<◌, ◌≤◌, arith, zero, suc, ◌+◌, length, length-append, inl, inr, not, ℕ, Bool, true, false, cond, List, [], ◌∷◌, ◌++◌, Option, Some, None, is_some, if◌then◌else◌, refl, sym, ap, ◌∙◌, subst, eqb-true, eq-eqb}
+use Rattle.std.proofs.Common.{◌≡◌, ◌||◌, ◌&&◌, ◌==◌, ◌<◌, arith, zero, suc, length, length-append, not, ℕ, Bool, true, false, cond, List, [], ◌∷◌, ◌++◌, Option, Some, None, is_some, if◌then◌else◌, refl, sym, ap, ◌∙◌, subst, eqb-true, eq-eqb}
 use Rattle.std.specs.Prelude.{Contains, slice_index_or}
 use Rattle.std.proofs.lemmas.List.{append_assoc}
 use Rattle.tk_status.specs.declared.Status.{Status}
@@ -7,7 +7,7 @@ use Rattle.tk_status.specs.declared.Status.TheVariants as statuses
 use Rattle.tk_model.specs.Counts.{Rose}
 use Rattle.tk_model.specs.declared.record.Entry.{Entry}
 use Rattle.tk_core.specs.declared.frame.Frame.{Frame}
-use Rattle.tk_core.specs.Caller.{Caller, knows_broken}
+use Rattle.tk_core.specs.Caller.{knows_broken}
 use Rattle.tk_core.specs.Covers.{store_lock}
 use Rattle.tk_core.specs.Lists.{has, without, AllBelow}
 use Rattle.tk_core.specs.Moves.{took_store, took_out, put_back, gave_store}

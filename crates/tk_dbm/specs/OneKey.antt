@@ -1,5 +1,5 @@
 -- A call at one key.
-use Rattle.std.specs.Prelude.{◌≡◌, ◌⊎◌, ℕ, Bool, true, List, [], ◌∷◌, Option, Some, None, cond, length}
+use Rattle.std.specs.Prelude.{◌≡◌, ◌⊎◌, ℕ, Bool, List, [], ◌∷◌, Option, Some, None, cond}
 use Rattle.tk_status.specs.declared.Status.{Status}
 use Rattle.tk_model.specs.Records.{find}
 use Rattle.tk_model.specs.declared.record.Action.{Action}

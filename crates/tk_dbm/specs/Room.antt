@@ -1,5 +1,5 @@
 -- Which calls a store has room for, after a history.
-use Rattle.std.specs.Prelude.{◌≡◌, ◌≢◌, ◌⊎◌, ◌<◌, ℕ, Bool, true, List, [], filter}
+use Rattle.std.specs.Prelude.{◌≢◌, ◌⊎◌, ◌<◌, ℕ, List, [], filter}
 use Rattle.tk_model.specs.Entries.{changes_of, is_in_shard}
 use Rattle.tk_model.specs.declared.record.Change.{Change}
 use Rattle.tk_model.specs.declared.record.Entry.{Entry}

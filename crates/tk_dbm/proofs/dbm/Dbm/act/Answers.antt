@@ -1,5 +1,5 @@
 use Rattle.std.specs.Option.{option_copied}
-use Rattle.std.proofs.Common.{◌≡◌, true, Some, None, is_some, if◌then◌else◌, refl, sym, ap, ◌∙◌, subst, arith}
+use Rattle.std.proofs.Common.{◌≡◌, true, Some, None, is_some, if◌then◌else◌, sym, ap, ◌∙◌, subst}
 use Rattle.tk_model.specs.Records.{IsClearAlone}
 use Rattle.tk_proc.specs.Runs.{counted, unless_long, status_unless_long, action_changes}
 use Rattle.tk_store.specs.Store.{AllFitWithin}

@@ -1,4 +1,3 @@
-use Rattle.std.proofs.Common.{arith}
 use Rattle.tk_dbm.specs.Dbm.{its, view}
 use Rattle.tk_dbm.proofs.Goods.{whole, unclosed}
 use Rattle.tk_dbm.proofs.Reserving.{applied_out}

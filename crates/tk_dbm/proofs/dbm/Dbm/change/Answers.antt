@@ -1,4 +1,4 @@
-use Rattle.std.proofs.Common.{Some, None, Err, refl, sym, ap, ◌∙◌, subst, arith}
+use Rattle.std.proofs.Common.{Some, Err, refl, sym, ap, ◌∙◌, subst}
 use Rattle.tk_status.specs.declared.Status.TheVariants as statuses
 use Rattle.tk_core.specs.Covers.{IsFrame}
 use Rattle.tk_locks.specs.Calls.{view as view_of}

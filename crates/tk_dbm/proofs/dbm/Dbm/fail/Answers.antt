@@ -1,5 +1,4 @@
 use Rattle.std.proofs.Common.{arith}
-use Rattle.tk_core.specs.declared.frame.Frame.{Frame}
 use Rattle.tk_dbm.specs.Dbm.{its, view}
 use Rattle.tk_locks.specs.Rule.{count_at}
 use Rattle.tk_dbm.proofs.Changing.{may_mark}

@@ -8,7 +8,7 @@ use Rattle.tk_locks.specs.Rule.{count_at}
 use Rattle.tk_locks.specs.Steps.{MayMark}
 use Rattle.tk_locks.specs.View.{View, marked, noted}
 use Rattle.tk_dbm.specs.Dbm.{its, view}
-use Rattle.tk_dbm.proofs.Changing.{made_ready, may_mark, may_stay, fault_only, rose_less}
+use Rattle.tk_dbm.proofs.Changing.{made_ready, may_mark, may_stay, fault_only}
 use Rattle.tk_dbm.proofs.dbm.Dbm.make_call.Goals as goal
 use Rattle.tk_dbm.proofs.dbm.Dbm.make_call.Goals.{in-Ok, in-Err}
 

@@ -1,4 +1,4 @@
-use Rattle.std.proofs.Common.{◌≡◌, ◌&&◌, not, Bool, true, false, [], ◌∷◌, None, refl, sym, ap, ◌∙◌, subst, arith}
+use Rattle.std.proofs.Common.{◌≡◌, ◌&&◌, not, true, false, ◌∷◌, refl, ap, ◌∙◌, arith}
 use Rattle.tk_status.specs.declared.Status.TheVariants as statuses
 use Rattle.tk_core.specs.Lists.{without}
 use Rattle.tk_core.proofs.Facts.{not_both}

@@ -1,10 +1,9 @@
-use Rattle.std.proofs.Common.{Some, None, Err, refl, sym, ap, ◌∙◌, arith}
+use Rattle.std.proofs.Common.{Some, Err, refl, ap, ◌∙◌}
 use Rattle.tk_status.specs.declared.Status.TheVariants as statuses
-use Rattle.tk_store.specs.declared.error.StoreError.TheVariants as errors
 use Rattle.tk_locks.specs.Calls.{view as view_of}
 use Rattle.tk_dbm.specs.Dbm.{its, setting, view, writes}
 use Rattle.tk_dbm.proofs.Visits.{beside_self}
-use Rattle.tk_dbm.proofs.Changing.{begun_is, noted_is, marked_is, holds, may_stay, visit_done, rests, looked_on, gave_up_done, gave_up_nothing, found_broken, failed_here, stayed_here, stopped_by, fault_rose}
+use Rattle.tk_dbm.proofs.Changing.{noted_is, visit_done, rests, looked_on, gave_up_done, gave_up_nothing, found_broken, failed_here, stayed_here, stopped_by, fault_rose}
 use Rattle.tk_dbm.proofs.dbm.Dbm.read.Goals as goal
 
 pub returns-in-Some-clause-own : goal.returns-in-Some-clause-own

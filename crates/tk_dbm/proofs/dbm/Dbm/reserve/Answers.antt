@@ -1,4 +1,3 @@
-use Rattle.std.proofs.Common.{arith}
 use Rattle.tk_store.proofs.Fits.{fits_more}
 use Rattle.tk_dbm.specs.Dbm.{its, view, writes}
 use Rattle.tk_dbm.proofs.Goods.{whole, unclosed, writes as is_writable}

@@ -1,6 +1,6 @@
-use Rattle.std.proofs.Common.{ap, sym, ◌∙◌, ◌≡◌, arith}
+use Rattle.std.proofs.Common.{ap, arith}
 use Rattle.tk_locks.specs.Calls.{view as view_of}
-use Rattle.tk_dbm.specs.Dbm.{its, setting}
+use Rattle.tk_dbm.specs.Dbm.{its}
 use Rattle.tk_dbm.proofs.Goods.{whole, stays, next_stays, found_value}
 use Rattle.tk_dbm.proofs.dbm.Dbm.value.Goals as goal
 
