@@ -3,6 +3,7 @@ use Rattle.std.specs.Prelude.{◌≡◌, ℕ, List, ◌++◌, take, drop, Option
 use Rattle.tk_model.specs.declared.record.Change.{Change}
 use Rattle.tk_model.specs.declared.record.Group.{Group}
 use Rattle.tk_model.specs.Records.{AllFit}
+use Rattle.tk_block.specs.Sizes.{static_size, heads_place}
 use Rattle.tk_block.specs.Layout.{group_text, end_of, bodies_of}
 use Rattle.tk_block.specs.Text.{base_of, closing_text}
 use Rattle.tk_block.specs.declared.head.StaticHead.{StaticHead}
@@ -26,7 +27,7 @@ with_disk log disk = record log { disk = disk }
 
 -- the file with this closing part
 abbrev pub with_closing : Closing → List ℕ → List ℕ
-with_closing c f = take 32 f ++ (closing_text c ++ drop 64 f)
+with_closing c f = take static_size f ++ (closing_text c ++ drop heads_place f)
 
 -- the closing part of a file that is open
 abbrev pub open_mark : Closing

@@ -2,6 +2,7 @@
 ghost use Rattle.std.specs.Prelude.{◌≡◌, ◌≤◌, ◌<◌, ◌^◌, ◌+◌, ◌-◌, ◌*◌, ℕ, List, length, drop, slice_index, IfOk, IfErr, IfSome, MatchOption, Some};
 ghost use Rattle.std.specs.Io.{StartsWith};
 ghost use Rattle.tk_disk.specs.Crash.{OnlyReads};
+ghost use Rattle.tk_block.specs.Sizes.{heads_place, cell_size};
 ghost use Rattle.tk_block.specs.Layout.{Placed};
 ghost use Rattle.tk_append.specs.Opening.{head_fault};
 ghost use Rattle.tk_append.specs.Chains.{HeadsAre};
@@ -24,10 +25,10 @@ fn head_fault_in(bytes: &[u8], heads: &[u64], first: usize, count: usize) -> Opt
     requires few { length heads.now ≤ 2 ^ 24 }
     ensures fault { MatchOption result
         ((p : ℕ) (blocks : List Placed) (f : List ℕ) → HeadsAre p heads.now blocks
-        → StartsWith (drop (64 + 8 * first) f) bytes.now → head_fault p blocks f (2 ^ p - first)
+        → StartsWith (drop (heads_place + cell_size * first) f) bytes.now → head_fault p blocks f (2 ^ p - first)
         first ≡ head_fault p blocks f (2 ^ p - (first + count)) (first + count))
         (λ q. (p : ℕ) (blocks : List Placed) (f : List ℕ) → HeadsAre p heads.now blocks
-        → StartsWith (drop (64 + 8 * first) f) bytes.now → head_fault p blocks f (2 ^ p - first)
+        → StartsWith (drop (heads_place + cell_size * first) f) bytes.now → head_fault p blocks f (2 ^ p - first)
         first ≡ Some q) }
     ensures small { (i : ℕ) → slice_index bytes.now i < 256 }
 {
@@ -49,7 +50,7 @@ pub(crate) fn head_fault<D: Disk>(
     requires { length heads.now ≤ 2 ^ 24 }
     ensures fault { IfOk result (λ o. MatchOption o (HeadsStand (D.image disk.old) heads.now)
         (λ q. HeadFails (D.image disk.old) heads.now q)) }
-    ensures outside { IfSome (D.image disk.old) (λ f. 64 + 8 * length heads.now ≤ length f
+    ensures outside { IfSome (D.image disk.old) (λ f. heads_place + cell_size * length heads.now ≤ length f
         → IfErr result IsOutside) }
     ensures image { D.image disk.new ≡ D.image disk.old }
     ensures cause { HasOpenCause (D.fault_count disk.old) (D.fault_count disk.new) result }

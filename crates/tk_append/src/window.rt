@@ -6,6 +6,7 @@ ghost use Rattle.tk_model.specs.declared.error.OpenError.TheVariants.{BrokenAt};
 ghost use Rattle.tk_disk.specs.Crash.{OnlyReads};
 ghost use Rattle.tk_append.specs.Read.{IsOutside, HasOpenCause};
 ghost use Rattle.tk_append.specs.Walked.{Shows, HoldsBlock};
+ghost use Rattle.tk_block.specs.Sizes.{closing_place};
 
 use std::alloc::Global;
 use tk_block::u64_at;
@@ -24,7 +25,7 @@ pub fn read_piece<D: Disk>(disk: &mut D, at: u64, into: &mut [u8]) -> Result<(),
     ensures outside { IfSome (D.image disk.old) (λ f. at + length into.old ≤ length f
         → IfErr result IsOutside) }
     ensures short { IfErr result (λ e. IsOutside e
-        ⊎ ((e ≡ BrokenAt 32) × (D.fault_count disk.new ≡ D.fault_count disk.old))) }
+        ⊎ ((e ≡ BrokenAt closing_place) × (D.fault_count disk.new ≡ D.fault_count disk.old))) }
     ensures unmet { IsErrOf result errors.NoMemory → ⊥ }
     ensures image { D.image disk.new ≡ D.image disk.old }
     ensures cause { HasOpenCause (D.fault_count disk.old) (D.fault_count disk.new) result }
@@ -116,7 +117,7 @@ impl Window {
         ensures outside { IfSome (D.image disk.old) (λ f. at + count ≤ length f
             → IfErr result IsOutside) }
         ensures short { IfErr result (λ e. IsOutside e
-            ⊎ ((e ≡ BrokenAt 32) × (D.fault_count disk.new ≡ D.fault_count disk.old))) }
+            ⊎ ((e ≡ BrokenAt closing_place) × (D.fault_count disk.new ≡ D.fault_count disk.old))) }
         ensures image { D.image disk.new ≡ D.image disk.old }
         ensures cause { HasOpenCause (D.fault_count disk.old) (D.fault_count disk.new) result }
         ensures still { OnlyReads D.may_leave D.moment D.left_since D.past D.left_with disk.old
@@ -147,7 +148,7 @@ impl Window {
         ensures outside { IfSome (D.image disk.old) (λ f. place + left ≤ length f
             → IfErr result IsOutside) }
         ensures short { IfErr result (λ e. IsOutside e
-            ⊎ ((e ≡ BrokenAt 32) × (D.fault_count disk.new ≡ D.fault_count disk.old))) }
+            ⊎ ((e ≡ BrokenAt closing_place) × (D.fault_count disk.new ≡ D.fault_count disk.old))) }
         ensures image { D.image disk.new ≡ D.image disk.old }
         ensures cause { HasOpenCause (D.fault_count disk.old) (D.fault_count disk.new) result }
         ensures still { OnlyReads D.may_leave D.moment D.left_since D.past D.left_with disk.old

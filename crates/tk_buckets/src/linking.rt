@@ -4,6 +4,7 @@ ghost use Rattle.std.specs.Int.{w64, to_be_bytes};
 ghost use Rattle.tk_disk.specs.Crash.{Torn, Follows, Elapses, OnlyReads, LeavesOnly, PastOnly};
 ghost use Rattle.tk_disk.specs.Past.{with_write, Writes};
 ghost use Rattle.tk_disk.specs.Disk.{put_at, HasCause};
+ghost use Rattle.tk_block.specs.Sizes.{cell_size};
 ghost use Rattle.tk_block.specs.Number.{u64_in};
 ghost use Rattle.tk_block.specs.Text.{base_of};
 ghost use Rattle.tk_block.specs.declared.head.StaticHead.{StaticHead};
@@ -38,10 +39,10 @@ pub fn insert<D: Disk>(
     ensures taken { D.taken_count disk.new ≡ D.taken_count disk.old }
     ensures cause { HasCause (D.fault_count disk.old) (D.fault_count disk.new) result }
     // a crash: the head's eight bytes are all that is written
-    ensures crash { Follows (Torn (head_cell bucket) 8) (D.may_leave disk.old)
+    ensures crash { Follows (Torn (head_cell bucket) cell_size) (D.may_leave disk.old)
         (D.may_leave disk.new) }
     ensures time { LeavesOnly D.moment D.left_since disk.old disk.new
-        (λ c. (d : List ℕ) × D.may_leave disk.old d × Torn (head_cell bucket) 8 d c) }
+        (λ c. (d : List ℕ) × D.may_leave disk.old d × Torn (head_cell bucket) cell_size d c) }
     ensures past { Writes (head_cell bucket) (to_be_bytes w64 place)
         (D.past disk.old) (D.past disk.new) }
     ensures told_past { IfSome (D.image disk.old) (λ _. OnOk result (D.past disk.new
@@ -129,12 +130,12 @@ pub fn unlink<D: Disk>(
     ensures cause { HasCause (D.fault_count disk.old) (D.fault_count disk.new) result }
     // a crash: the eight bytes of the cell are all that is written
     ensures crash { IfInChain (D.image disk.old) head.now bucket place (λ _ places.
-        Follows (Torn (cell_to (head_cell bucket) place places) 8)
+        Follows (Torn (cell_to (head_cell bucket) place places) cell_size)
         (D.may_leave disk.old) (D.may_leave disk.new)) }
     ensures time { IfInChain (D.image disk.old) head.now bucket place (λ _ places.
         LeavesOnly D.moment D.left_since disk.old disk.new
         (λ c. (d : List ℕ) × D.may_leave disk.old d
-        × Torn (cell_to (head_cell bucket) place places) 8 d c)) }
+        × Torn (cell_to (head_cell bucket) place places) cell_size d c)) }
     ensures past { IfInChain (D.image disk.old) head.now bucket place (λ f places.
         Writes (cell_to (head_cell bucket) place places) (to_be_bytes w64 (link_in f place))
         (D.past disk.old) (D.past disk.new)) }

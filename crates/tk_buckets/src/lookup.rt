@@ -3,6 +3,7 @@ ghost use Rattle.std.specs.Prelude.{◌≡◌, ◌+◌, ◌-◌, ◌*◌, ◌/�
 ghost use Rattle.tk_disk.specs.Crash.{OnlyReads};
 ghost use Rattle.tk_disk.specs.Disk.{HasCause};
 ghost use Rattle.tk_model.specs.Orders.{same_bytes};
+ghost use Rattle.tk_block.specs.Sizes.{key_len_offset, key_offset, least_extent};
 ghost use Rattle.tk_block.specs.Number.{u16_in, u32_in, u64_in};
 ghost use Rattle.tk_block.specs.declared.head.StaticHead.{StaticHead};
 ghost use Rattle.tk_buckets.specs.Chain.{IsLinked, IsWhole};
@@ -71,11 +72,11 @@ fn read_part<D: Disk>(
 
 /// The key of the block in the buffer has this one's length and first letters.
 fn may_have(buffer: &[u8], key: &[u8]) -> bool
-    requires { 48 ≤ length buffer.now }
+    requires { least_extent ≤ length buffer.now }
     ensures short { result ≡ true → length key.now < 65536 }
-    ensures value { result ≡ ((u16_in buffer.now 26 == length key.now)
+    ensures value { result ≡ ((u16_in buffer.now key_len_offset == length key.now)
         && same_bytes (take (min (length key.now) 8) key.now)
-        (take (min (length key.now) 8) (drop 40 buffer.now))) }
+        (take (min (length key.now) 8) (drop key_offset buffer.now))) }
 {
     let first = key.len().min(FRONT - KEY);
     u16_at(buffer, KEY_LEN) as usize == key.len()
@@ -90,8 +91,8 @@ fn has_key_at<D: Disk>(
     buffer: &mut [u8],
     key: &[u8],
 ) -> Result<bool, DiskError>
-    requires front { 48 ≤ length buffer.old }
-    requires key { min 65575 (40 + length key.now) ≤ length buffer.old }
+    requires front { least_extent ≤ length buffer.old }
+    requires key { min 65575 (key_offset + length key.now) ≤ length buffer.old }
     ensures sees { (h : StaticHead) → IfSome (D.image disk.old) (λ f. IsWhole h f place
         → length f < 2 ^ 64 → IfOk result (Sees f key.now place buffer.new)) }
     ensures cost { (h : StaticHead) → IfSome (D.image disk.old) (λ f. IsWhole h f place
@@ -117,7 +118,7 @@ fn has_key_at<D: Disk>(
 
 /// The block at a place, of which the buffer has the front.
 fn shown_block(place: u64, buffer: &[u8]) -> FoundBlock
-    requires { 48 ≤ length buffer.now }
+    requires { least_extent ≤ length buffer.now }
     ensures { result ≡ shown_block place buffer.now }
 {
     FoundBlock {
@@ -138,8 +139,8 @@ pub fn find_block<D: Disk>(
     key: &[u8],
 ) -> Result<Option<FoundBlock>, DiskError>
     requires len { IfSome (D.image disk.old) (λ f. length f ≤ len) }
-    requires front { 48 ≤ length buffer.old }
-    requires key { min 65575 (40 + length key.now) ≤ length buffer.old }
+    requires front { least_extent ≤ length buffer.old }
+    requires key { min 65575 (key_offset + length key.now) ≤ length buffer.old }
     // the answer
     ensures found { (h : StaticHead) (places : List ℕ) → IfSome (D.image disk.old) (λ f.
         IsLinked h f first places → IfOk result (Finds f key.now places buffer.new)) }
@@ -176,12 +177,12 @@ pub fn fill_value<D: Disk>(
     key: &[u8],
     into: &mut [u8],
 ) -> Result<(), DiskError>
-    requires key { 40 + length key.now ≤ length buffer.now }
+    requires key { key_offset + length key.now ≤ length buffer.now }
     ensures filled { IfSome (D.image disk.old) (λ f. length f < 2 ^ 64
         → length into.old ≤ block.now.value_len → (x : IsBlockOf f key.now buffer.now block.now)
         → IfOk result (λ _. into.new ≡ take (length into.old) x.body.value)) }
     ensures cost { D.taken_count disk.new ≤ D.taken_count disk.old
-        + (length into.old - (length buffer.now - (40 + length key.now))) }
+        + (length into.old - (length buffer.now - (key_offset + length key.now))) }
     ensures image { D.image disk.new ≡ D.image disk.old }
     ensures more { D.taken_count disk.old ≤ D.taken_count disk.new }
     ensures cause { HasCause (D.fault_count disk.old) (D.fault_count disk.new) result }

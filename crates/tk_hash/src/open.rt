@@ -10,6 +10,7 @@ ghost use Rattle.tk_append.specs.Log.{Tells, closed_text};
 ghost use Rattle.tk_append.specs.LogParts.{log_disk, log_head, log_end, with_closing, open_mark};
 ghost use Rattle.tk_append.specs.LogPasts.{Marks};
 ghost use Rattle.tk_append.specs.Read.{IsOutside};
+ghost use Rattle.tk_block.specs.Sizes.{heads_place};
 ghost use Rattle.tk_block.specs.Text.{is_static};
 ghost use Rattle.tk_hash.specs.Relations.{MarkTornOnly, UnlessFaulty};
 
@@ -70,7 +71,7 @@ fn begin<D: Disk>(
     closing: Closing,
     writable: bool,
 ) -> Result<Closing, DiskError>
-    requires there { IfSome (D.image (log_disk log.old)) (λ f. 64 ≤ length f) }
+    requires there { IfSome (D.image (log_disk log.old)) (λ f. heads_place ≤ length f) }
     // the log
     ensures head { log_head log.new ≡ log_head log.old }
     ensures end { log_end log.new ≡ log_end log.old }
