@@ -15,7 +15,7 @@ use Rattle.tk_block.specs.Sizes.{closing_place, kind_place, next_place, heads_pl
 use Rattle.tk_block.specs.Number.{u64_in}
 use Rattle.tk_block.specs.Text.{head_at, static_at, closing_at, base_of}
 use Rattle.tk_block.specs.Blocks.{extent_of, room_of, body_at}
-use Rattle.tk_block.specs.Layout.{Placed, newest, link_of}
+use Rattle.tk_block.specs.Layout.{placed, Placed, newest, link_of}
 use Rattle.tk_block.specs.declared.block.Body.{Body}
 use Rattle.tk_block.specs.declared.head.StaticHead.{StaticHead}
 use Rattle.tk_block.specs.declared.closing.Closing.{Closing}
@@ -68,7 +68,7 @@ walk_block h shard w place bytes None body go = FailsAt place
 walk_block h shard w place bytes (Some e) None go = FailsAt place
 walk_block h shard w place bytes (Some e) (Some b) go =
     if may_stand h shard w bytes e b
-    then (if u64_in bytes link_offset == link_of h.p w.blocks b then go (walked w (record { place = place; body = b })) e else FailsAt (place + link_offset))
+    then (if u64_in bytes link_offset == link_of h.p w.blocks b then go (walked w (placed place b)) e else FailsAt (place + link_offset))
     else FailsAt place
 
 -- the walk over the blocks from a place on, of which there are at most so many

@@ -19,7 +19,7 @@ may_be_read w e b = nat_le (room_of b) e && not (b.kind == 3) && is_in_turn w.le
 abbrev pub read_block : Walk → (place : ℕ) → Option ℕ → Option Body → (Walk → ℕ → Walk) → Walk
 read_block w place None body go = w
 read_block w place (Some e) None go = w
-read_block w place (Some e) (Some b) go = if may_be_read w e b then go (walked w (record { place = place; body = b })) e else w
+read_block w place (Some e) (Some b) go = if may_be_read w e b then go (walked w (record { place = place; extent = e; body = b })) e else w
 
 -- the blocks from a place on, of which there are at most so many, up to the first that is none
 abbrev pub read_on : (most : ℕ) → Walk → (place : ℕ) → (bytes : List ℕ) → Walk
@@ -52,7 +52,7 @@ restored_groups f = groups_by f (static_at f)
 
 -- at the place of a block a head whose check matches is the block's, and so is a body
 pub record IsUntornAt (x : Placed) (c : List ℕ) : Type 0 where
-  pub head : (e : ℕ) → head_at (drop x.place c) x.place ≡ Some e → e ≡ extent_of x.body
+  pub head : (e : ℕ) → head_at (drop x.place c) x.place ≡ Some e → e ≡ x.extent
   pub says : (b : Body) → body_at (drop (x.place + body_offset) c) x.place ≡ Some b → b ≡ x.body
 
 -- the text of the blocks of groups

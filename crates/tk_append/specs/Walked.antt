@@ -9,7 +9,7 @@ use Rattle.tk_block.specs.Number.{u64_in}
 use Rattle.std.specs.Io.{StartsWith}
 use Rattle.tk_block.specs.Text.{head_at, base_of}
 use Rattle.tk_block.specs.Blocks.{IsSmall, body_at, body_said}
-use Rattle.tk_block.specs.Layout.{Placed, newest, link_of}
+use Rattle.tk_block.specs.Layout.{placed, Placed, newest, link_of}
 use Rattle.tk_block.specs.declared.block.Body.{Body}
 use Rattle.tk_block.specs.declared.head.StaticHead.{StaticHead}
 use Rattle.tk_append.specs.Keys.{HasKeys}
@@ -85,7 +85,7 @@ IsOfKind b = (((b.kind == 1) || (b.kind == 2)) || (b.kind == 4)) ≡ true
 pub record Passed (h : StaticHead) (shard : ShardOf) (w : Walk) (place : ℕ) (bytes : List ℕ) (extent : ℕ) (walker : Walker) : Type 0 where
   pub body : Body
   pub follows : MayFollow h shard w place bytes extent body
-  pub at : IsAt h.p (place + extent) walker (walked w (record { place = place; body = body }))
+  pub at : IsAt h.p (place + extent) walker (walked w (placed place body))
   pub some : 0 < extent
   pub within : extent ≤ length bytes
   pub small : (i : ℕ) → slice_index bytes i < 256

@@ -1,5 +1,6 @@
 //! To what the image that a crash leaves of a file of groups is restored.
-ghost use Rattle.std.specs.Prelude.{◌≡◌, ◌≤◌, IfOk, MatchOption};
+ghost use Rattle.tk_block.specs.Layout.{placed};
+ghost use Rattle.std.specs.Prelude.{ℕ, ◌≡◌, ◌≤◌, IfOk, MatchOption};
 ghost use Rattle.tk_block.specs.Blocks.{body_said};
 ghost use Rattle.tk_append.specs.Opening.{change_in};
 ghost use Rattle.tk_append.specs.Restored.{groups_in, restored_groups};
@@ -91,7 +92,7 @@ impl Reading {
     fn add(&mut self, alloc: Global, place: u64, block: Block<'_>) -> Result<(), NoMemory>
         ensures { (w : Walk) → Knows self.old w
             → OnOk result
-            (Knows self.new (walked w (record { place = place; body = body_said block.entry }))) }
+            (Knows self.new (walked w (placed place (body_said block.entry)))) }
     {
         self.begun.push(change_of(alloc, block)?)?;
         let number = block.number;

@@ -2,7 +2,7 @@ ghost use Rattle.std.specs.Prelude.{◌≡◌, ◌≤◌, ◌<◌, ◌^◌, ◌+
 ghost use Rattle.std.specs.Str.{bytes_eq};
 ghost use Rattle.tk_model.specs.Hashes.{mix_of};
 ghost use Rattle.tk_block.specs.Blocks.{IsSmall, body_at, body_said, extent_of, room_of};
-ghost use Rattle.tk_block.specs.Layout.{link_of, Placed};
+ghost use Rattle.tk_block.specs.Layout.{placed, link_of, Placed};
 ghost use Rattle.tk_append.specs.Opening.{Walk, is_in_its_shard, is_in_turn, is_padded, may_stand, walked};
 ghost use Rattle.tk_append.specs.Walked.{IsAt, MayFollow, Fails, NewestIn, HasNone, HasBlock, turn_in, live_head};
 
@@ -208,7 +208,7 @@ impl Walker {
         ensures heads { (blocks : List Placed) → NewestIn p place self.old.heads.items
             self.old.cleared blocks → IsOfKind (body_said found.now.block)
             → (next : ℕ) → place < next → NewestIn p next self.new.heads.items self.new.cleared
-            (blocks ++ record { place = place; body = body_said found.now.block } ∷ []) }
+            (blocks ++ placed place (body_said found.now.block) ∷ []) }
         ensures keys { self.new.keys ≡ self.old.keys }
         ensures before { self.new.before ≡ self.old.before }
         ensures open_group { self.new.open_group ≡ self.old.open_group }
@@ -227,7 +227,7 @@ impl Walker {
             self.new.before }
         ensures open_group { (first : Option Placed) → self.old.open_group ≡ option_map as_open
             first → self.new.open_group ≡ option_map as_open
-            (opened_by first (record { place = place; body = body_said block.entry })) }
+            (opened_by first (placed place (body_said block.entry))) }
         ensures heads { self.new.heads.items ≡ self.old.heads.items }
         ensures cleared { self.new.cleared ≡ self.old.cleared }
         ensures keys { self.new.keys ≡ self.old.keys }
@@ -258,7 +258,7 @@ impl Walker {
             → IsOfKind (body_said found.now.block) → place < next
             → OnOk result
             (IsAt p next self.new
-            (walked w (record { place = place; body = body_said found.now.block }))) }
+            (walked w (placed place (body_said found.now.block)))) }
     {
         change_keys(alloc, &mut self.keys, found.block)?;
         self.turn_heads(p, place, found);

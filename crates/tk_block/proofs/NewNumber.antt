@@ -7,7 +7,7 @@ use Rattle.std.proofs.lemmas.Nat.{from_be_bytes-to_be_bytes_2, from_be_bytes-to_
 use Rattle.tk_block.specs.declared.block.Body.{Body}
 use Rattle.tk_block.specs.Number.{u16_in, u32_in, u64_in}
 use Rattle.tk_block.specs.Text.{head_text, head_front, checked, check_number}
-use Rattle.tk_block.specs.Blocks.{IsSmall, flag, numbers_text, body_front, block_text, extent_of, room_of, numbered}
+use Rattle.tk_block.specs.Blocks.{block_with, IsSmall, flag, numbers_text, body_front, block_text, extent_of, room_of, numbered}
 use Rattle.tk_block.specs.Renumber.{IsBlockIn}
 use Rattle.tk_block.proofs.Heads.{length-head_text}
 use Rattle.tk_block.proofs.Bodies.{length-numbers_text}
@@ -44,11 +44,11 @@ front_split : (b : Body) → body_front b ≡ lengths_text b ++ (to_be_bytes w64
 front_split b = rw numbers_split (simp append_assoc)
 
 block_split : (b : Body) (place link : ℕ) (rest : List ℕ) → block_text b place link ++ rest ≡ opening b place link ++ (body_front b ++ (sum_text b place ++ ending b rest))
-unfolding block_text checked
+unfolding block_text block_with checked
 block_split b place link rest = simp append_assoc
 
 told : (b : Body) (place link : ℕ) (rest : List ℕ) → (take 8 (drop 4 (block_text b place link ++ rest)) ≡ to_be_bytes w64 (extent_of b)) × (take 2 (drop 26 (block_text b place link ++ rest)) ≡ to_be_bytes w16 (length b.key)) × (take 4 (drop 28 (block_text b place link ++ rest)) ≡ to_be_bytes w32 (length b.value))
-unfolding block_text head_text head_front checked numbers_text
+unfolding block_text block_with head_text head_front checked numbers_text
 told b place link rest = (refl, refl, refl)
 
 -- a part of the bytes behind a front

@@ -94,7 +94,7 @@ fn put_body(block: Block<'_>, place: u64, out: &mut Bytes) -> Result<(), NoMemor
 }
 
 /// Puts the block's text for a place at the end.
-#[tactic(auto, unfolding(crate::specs::Blocks::block_text))]
+#[tactic(auto, unfolding(crate::specs::Blocks::block_text, crate::specs::Blocks::block_with))]
 pub fn write_block(block: Block<'_>, place: u64, link: u64, out: &mut Bytes) -> Result<(), NoMemory>
     requires { IsSmall block.key.now block.value.now }
     ensures ok { OnOk result (out.new ≡ out.old ++ block_text (body_said block.entry) place link) }

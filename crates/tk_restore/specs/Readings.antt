@@ -30,7 +30,7 @@ pub record IsRead (w : Walk) (place extent : ℕ) (bytes : List ℕ) (reading : 
   pub body : Body
   pub there : body_at (drop body_offset bytes) place ≡ Some body
   pub may : may_be_read w extent body ≡ true
-  pub knows : Knows reading (walked w (record { place = place; body = body }))
+  pub knows : Knows reading (walked w (record { place = place; extent = extent; body = body }))
 
 -- no block of this extent may be read
 abbrev pub NotRead : Walk → (place extent : ℕ) → (bytes : List ℕ) → Type 0

@@ -1,5 +1,5 @@
 //! The records of an image, block by block.
-ghost use Rattle.std.specs.Prelude.{◌≡◌, ◌∷◌, [], ◌++◌, false, OnOk};
+ghost use Rattle.std.specs.Prelude.{ℕ, ◌≡◌, ◌∷◌, [], ◌++◌, false, OnOk};
 ghost use Rattle.tk_model.specs.declared.record.Order.TheVariants.{Hash};
 ghost use Rattle.tk_model.specs.Records.{after, after_one};
 ghost use Rattle.tk_block.specs.Blocks.{IsSmall, body_said};
@@ -75,7 +75,7 @@ impl Reading {
         requires clears { MayEnd (body_said block) }
         ensures { (w : Walk) → Knows self.old w
             → OnOk result (Knows self.new
-            (walked w (record { place = place; body = body_said block.entry }))) }
+            (walked w (record { place = place; extent = extent; body = body_said block.entry }))) }
     {
         let number = block.number;
         add_change(&mut self.records, block)?;
