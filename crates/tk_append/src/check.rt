@@ -19,7 +19,10 @@ use crate::scan::walk_file;
 use crate::walker::Walker;
 use crate::window::read_piece;
 use std::alloc::Global;
-use tk_block::{Closing, StaticHead, base_of, read_closing, read_static};
+use tk_block::{
+    CLOSING_PLACE, Closing, HEADS_PLACE, KIND_PLACE, NEXT_PLACE, STATIC_SIZE, StaticHead, base_of,
+    read_closing, read_static,
+};
 use tk_disk::{Disk, DiskError};
 use tk_model::{OpenError, ShardOf};
 
@@ -74,7 +77,7 @@ fn head_in(front: &[u8], kinds: &[u8]) -> Result<StaticHead, OpenError>
         return Err(OpenError::NotADatabase);
     };
     if !is_among(kinds, head.kind) {
-        return Err(OpenError::BrokenAt(8));
+        return Err(OpenError::BrokenAt(KIND_PLACE));
     }
     Ok(head)
 }
@@ -93,11 +96,11 @@ fn closing_in(front: &[u8], size: u64, p: u8) -> Result<Closing, OpenError>
     ensures size { IfOk result (λ c. c.size ≡ size) }
     ensures base { IfOk result (λ c. base_of p ≤ c.size) }
 {
-    let Some(closing) = read_closing(&front[32..]) else {
-        return Err(OpenError::BrokenAt(32));
+    let Some(closing) = read_closing(&front[STATIC_SIZE..]) else {
+        return Err(OpenError::BrokenAt(CLOSING_PLACE));
     };
     if closing.size != size || closing.size < base_of(p) {
-        return Err(OpenError::BrokenAt(32));
+        return Err(OpenError::BrokenAt(CLOSING_PLACE));
     }
     Ok(closing)
 }
@@ -113,7 +116,7 @@ fn read_front<D: Disk>(disk: &mut D, kinds: &[u8]) -> Result<Found, OpenError>
         disk.new }
 {
     let size = length_of(disk)?;
-    if size < 64 {
+    if size < HEADS_PLACE {
         return Err(OpenError::NotADatabase);
     }
     let mut front = [0; 64];
@@ -136,10 +139,10 @@ fn check_count(
 {
     let is_above = before.is_none_or(|number| number < closing.next);
     if closing.count != count as u64 || !is_above {
-        return Err(OpenError::BrokenAt(32));
+        return Err(OpenError::BrokenAt(CLOSING_PLACE));
     }
     if writable && closing.next > 1 << 62 {
-        return Err(OpenError::BrokenAt(48));
+        return Err(OpenError::BrokenAt(NEXT_PLACE));
     }
     Ok(())
 }
@@ -158,7 +161,8 @@ fn check_end<D: Disk>(
     ensures ends { (h : Head) (place : ℕ) (w : Walk) → IsAt h.p place walker.old w
         → OnOk result (HasHeads (D.image disk.old) h w closing.now writable) }
     ensures fails { (h : Head) (place : ℕ) (w : Walk) → IsAt h.p place walker.old w
-        → IfSome (D.image disk.old) (λ f. heads_place + cell_size * length walker.old.heads.items ≤ length f
+        → IfSome (D.image disk.old) (λ f.
+        heads_place + cell_size * length walker.old.heads.items ≤ length f
         → IfErr result (λ e. TellsCause e (end_fault writable h closing.now f (Ends w)))) }
     ensures image { D.image disk.new ≡ D.image disk.old }
     ensures cause { HasOpenCause (D.fault_count disk.old) (D.fault_count disk.new) result }

@@ -17,7 +17,10 @@ ghost use Rattle.tk_append.specs.LogParts.{log_disk, log_head, log_end, with_dis
 ghost use Rattle.tk_append.specs.LogPasts.{Settles, Marks, Closes};
 
 use std::alloc::Global;
-use tk_block::{Closing, LinkList, StaticHead, renumber, write_changes, write_closing};
+use tk_block::{
+    CELL_SIZE, CLOSING_PLACE, Closing, HEADS_PLACE, LinkList, StaticHead, renumber, write_changes,
+    write_closing,
+};
 use tk_disk::{Disk, DiskError};
 use tk_model::{Bytes, ChangeList, NoMemory};
 
@@ -212,13 +215,14 @@ impl<D: Disk> GroupLog<D> {
         ensures crash { Follows (Torn closing_place closing_size) (D.may_leave (log_disk self.old))
             (D.may_leave (log_disk self.new)) }
         ensures time { LeavesOnly D.moment D.left_since (log_disk self.old) (log_disk self.new)
-            (λ c. (d : List ℕ) × D.may_leave (log_disk self.old) d × Torn closing_place closing_size d c) }
+            (λ c. (d : List ℕ) × D.may_leave (log_disk self.old) d
+            × Torn closing_place closing_size d c) }
         ensures past { Writes closing_place (closing_text closing.now) (D.past (log_disk self.old))
             (D.past (log_disk self.new)) }
         ensures pasts { PastOnly D.moment D.left_with (log_disk self.old) (log_disk self.new)
             (Writes closing_place (closing_text closing.now) (D.past (log_disk self.old))) }
     {
-        self.disk.write_at(32, &write_closing(closing))
+        self.disk.write_at(CLOSING_PLACE, &write_closing(closing))
     }
 
     /// Writes that the file is open, and makes that durable.
@@ -240,7 +244,8 @@ impl<D: Disk> GroupLog<D> {
         ensures durable { OnOk result (IfSome (D.image (log_disk self.new))
             (λ f. Only f (D.may_leave (log_disk self.new)))) }
         ensures time { LeavesOnly D.moment D.left_since (log_disk self.old) (log_disk self.new)
-            (λ c. (d : List ℕ) × D.may_leave (log_disk self.old) d × Torn closing_place closing_size d c) }
+            (λ c. (d : List ℕ) × D.may_leave (log_disk self.old) d
+            × Torn closing_place closing_size d c) }
         ensures past { Marks open_mark (D.image (log_disk self.old))
             (D.past (log_disk self.old)) (D.past (log_disk self.new)) }
         ensures pasts { PastOnly D.moment D.left_with (log_disk self.old) (log_disk self.new)
@@ -277,7 +282,8 @@ impl<D: Disk> GroupLog<D> {
         ensures durable { OnOk result (IfSome (D.image (log_disk self.new))
             (λ f. Only f (D.may_leave (log_disk self.new)))) }
         ensures time { LeavesOnly D.moment D.left_since (log_disk self.old) (log_disk self.new)
-            (λ c. (d : List ℕ) × D.may_leave (log_disk self.old) d × Torn closing_place closing_size d c) }
+            (λ c. (d : List ℕ) × D.may_leave (log_disk self.old) d
+            × Torn closing_place closing_size d c) }
         ensures behind { IfSome (D.image (log_disk self.old)) (λ f. LeavesOnly D.moment D.left_since
             (log_disk self.old) (log_disk self.new) (λ c. D.may_leave (log_disk self.old) c
             ⊎ Torn closing_place closing_size f c)) }
@@ -299,7 +305,8 @@ impl<D: Disk> GroupLog<D> {
     /// Writes the cells of heads from a bucket's on.
     pub fn set_cells(&mut self, bucket: u64, text: &[u8]) -> Result<(), DiskError>
         requires p { (log_head self.old).p ≤ 24 }
-        requires text { heads_place + cell_size * bucket + length text.now ≤ base_of (log_head self.old).p }
+        requires text { heads_place + cell_size * bucket + length text.now
+            ≤ base_of (log_head self.old).p }
         requires there { IfSome (D.image (log_disk self.old)) (λ f. base_of (log_head self.old).p
             ≤ length f) }
         ensures written { OnOk result (D.image (log_disk self.new) ≡ option_map
@@ -318,11 +325,11 @@ impl<D: Disk> GroupLog<D> {
         ensures time { LeavesOnly D.moment D.left_since (log_disk self.old) (log_disk self.new)
             (λ c. (d : List ℕ) × D.may_leave (log_disk self.old) d
             × Torn (heads_place + cell_size * bucket) (length text.now) d c) }
-        ensures past { Writes (heads_place + cell_size * bucket) text.now (D.past (log_disk self.old))
-            (D.past (log_disk self.new)) }
+        ensures past { Writes (heads_place + cell_size * bucket) text.now
+            (D.past (log_disk self.old)) (D.past (log_disk self.new)) }
         ensures pasts { PastOnly D.moment D.left_with (log_disk self.old) (log_disk self.new)
             (Writes (heads_place + cell_size * bucket) text.now (D.past (log_disk self.old))) }
     {
-        self.disk.write_at(64 + 8 * bucket, text)
+        self.disk.write_at(HEADS_PLACE + CELL_SIZE * bucket, text)
     }
 }

@@ -44,7 +44,8 @@ fn begin<D: Disk>(log: &mut GroupLog<D>, writable: bool) -> Result<(), DiskError
         → OnOk result (IfSome (D.image (log_disk log.new))
         (λ f. Only f (D.may_leave (log_disk log.new)))) }
     ensures time { LeavesOnly D.moment D.left_since (log_disk log.old) (log_disk log.new)
-        (λ c. (d : List ℕ) × D.may_leave (log_disk log.old) d × Torn closing_place closing_size d c) }
+        (λ c. (d : List ℕ) × D.may_leave (log_disk log.old) d
+        × Torn closing_place closing_size d c) }
     ensures past { Marks open_mark (D.image (log_disk log.old))
         (D.past (log_disk log.old)) (D.past (log_disk log.new)) }
     ensures pasts { PastOnly D.moment D.left_with (log_disk log.old) (log_disk log.new)
@@ -86,8 +87,8 @@ pub fn open_log<D: Disk>(
         (λ f. Only f (D.may_leave (log_disk log)))) }
     ensures crash { IfOk result (λ log. Follows (Torn closing_place closing_size) (D.may_leave disk)
         (D.may_leave (log_disk log))) }
-    ensures back_crash { IfErr result (λ u. Follows (Torn closing_place closing_size) (D.may_leave disk)
-        (D.may_leave u.disk)) }
+    ensures back_crash { IfErr result (λ u. Follows (Torn closing_place closing_size)
+        (D.may_leave disk) (D.may_leave u.disk)) }
     ensures crash_reads { writable ≡ false
         → IfOk result (λ log. Within (D.may_leave disk) (D.may_leave (log_disk log))) }
     ensures counted { IfOk result (λ log. D.fault_count (log_disk log) ≡ D.fault_count disk) }

@@ -49,7 +49,7 @@ module _ (h : StaticHead) (f : List ℕ) (place : ℕ) (b : Body) (link : ℕ) (
   }
 
   pub written_stands : base_of h.p ≤ place → StandsAt h f (placed place b)
-  written_stands behind = record { whole = written_whole behind; says = written_says }
+  written_stands behind = record { whole = written_whole behind; extent = written_extent; says = written_says }
 
 stand_by_kind : (h : StaticHead) (f : List ℕ) (clear ours : Bool) (x : Placed) (found : List Placed) → StandsAt h f x → AllStand h f found → AllStand h f (cond clear [] (cond ours (x ∷ found) found))
 stand_by_kind h f true ours x found here all = tt

@@ -13,9 +13,10 @@ use Rattle.tk_buckets.specs.declared.lookup.FoundBlock.{FoundBlock}
 abbrev pub body_in_block : List ℕ → (place : ℕ) → Option Body
 body_in_block f place = body_at (drop (place + body_offset) f) place
 
--- a block stands whole at its place, with its body
+-- a block stands whole at its place, with its extent and its body
 pub record StandsAt (h : StaticHead) (f : List ℕ) (x : Placed) : Type 0 where
   pub whole : IsWhole h f x.place
+  pub extent : extent_in f x.place ≡ x.extent
   pub says : body_in_block f x.place ≡ Some x.body
 
 -- each of these blocks does

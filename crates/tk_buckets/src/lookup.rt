@@ -11,24 +11,15 @@ ghost use Rattle.tk_buckets.specs.Lookup.{IsBlockOf, body_in_block, read_of_bloc
 ghost use Rattle.tk_buckets.specs.Seen.{Sees, shown_block};
 
 use crate::read::read_bytes;
-use tk_block::{u16_at, u32_at, u64_at};
+use tk_block::{
+    BODY_OFFSET, EXTENT_OFFSET, KEY_LEN_OFFSET, KEY_OFFSET, LEAST_EXTENT, LINK_OFFSET,
+    VALUE_LEN_OFFSET, u16_at, u32_at, u64_at,
+};
 use tk_disk::{Disk, DiskError};
 use tk_model::is_same;
 
 /// Head, link, numbers and the first eight letters of the key.
-const FRONT: usize = 48;
-/// Where the parts of a block stand.
-const EXTENT: usize = 4;
-
-const LINK: usize = 16;
-
-const KIND: usize = 24;
-
-const KEY_LEN: usize = 26;
-
-const VALUE_LEN: usize = 28;
-
-const KEY: usize = 40;
+const FRONT: usize = KEY_OFFSET + 8;
 
 /// A block that a look-up found. Kinds are those of `Body`.
 #[derive(Clone, Copy, Debug)]
@@ -78,9 +69,9 @@ fn may_have(buffer: &[u8], key: &[u8]) -> bool
         && same_bytes (take (min (length key.now) 8) key.now)
         (take (min (length key.now) 8) (drop key_offset buffer.now))) }
 {
-    let first = key.len().min(FRONT - KEY);
-    u16_at(buffer, KEY_LEN) as usize == key.len()
-        && is_same(&key[..first], &buffer[KEY..KEY + first])
+    let first = key.len().min(FRONT - KEY_OFFSET);
+    u16_at(buffer, KEY_LEN_OFFSET) as usize == key.len()
+        && is_same(&key[..first], &buffer[KEY_OFFSET..KEY_OFFSET + first])
 }
 
 /// Whether the block at a place has the key. The buffer then has the block's link, and where the block has the key, its
@@ -110,10 +101,10 @@ fn has_key_at<D: Disk>(
     if !may_have(buffer, key) {
         return Ok(false);
     }
-    let end = KEY + key.len() + u32_at(buffer, VALUE_LEN) as usize;
+    let end = KEY_OFFSET + key.len() + u32_at(buffer, VALUE_LEN_OFFSET) as usize;
     let end = end.min(buffer.len());
     read_part(disk, place, buffer, FRONT, end)?;
-    Ok(is_same(key, &buffer[KEY..KEY + key.len()]))
+    Ok(is_same(key, &buffer[KEY_OFFSET..KEY_OFFSET + key.len()]))
 }
 
 /// The block at a place, of which the buffer has the front.
@@ -123,9 +114,9 @@ fn shown_block(place: u64, buffer: &[u8]) -> FoundBlock
 {
     FoundBlock {
         place,
-        extent: u64_at(buffer, EXTENT),
-        kind: buffer[KIND],
-        value_len: u32_at(buffer, VALUE_LEN),
+        extent: u64_at(buffer, EXTENT_OFFSET),
+        kind: buffer[BODY_OFFSET],
+        value_len: u32_at(buffer, VALUE_LEN_OFFSET),
     }
 }
 
@@ -149,7 +140,8 @@ pub fn find_block<D: Disk>(
     ensures cost { (h : StaticHead) (places : List ℕ) → IfSome (D.image disk.old) (λ f.
         IsLinked h f first places → D.taken_count disk.new
         ≤ D.taken_count disk.old + read_of_chain f key.now (length buffer.old) places) }
-    ensures bound { D.taken_count disk.new ≤ D.taken_count disk.old + len / 48 * length buffer.old }
+    ensures bound { D.taken_count disk.new
+        ≤ D.taken_count disk.old + len / least_extent * length buffer.old }
     ensures more { D.taken_count disk.old ≤ D.taken_count disk.new }
     // the disk
     ensures image { D.image disk.new ≡ D.image disk.old }
@@ -159,11 +151,11 @@ pub fn find_block<D: Disk>(
 {
     let mut place = first;
     let mut steps = 0;
-    while place != 0 && steps < len / 48 {
+    while place != 0 && steps < len / LEAST_EXTENT {
         if has_key_at(disk, place, buffer, key)? {
             return Ok(Some(shown_block(place, buffer)));
         }
-        place = u64_at(buffer, LINK);
+        place = u64_at(buffer, LINK_OFFSET);
         steps += 1;
     }
     Ok(None)
@@ -189,7 +181,7 @@ pub fn fill_value<D: Disk>(
     ensures still { OnlyReads D.may_leave D.moment D.left_since D.past D.left_with
         disk.old disk.new }
 {
-    let start = KEY + key.len();
+    let start = KEY_OFFSET + key.len();
     let have = into.len().min(buffer.len() - start);
     into[..have].copy_from_slice(&buffer[start..start + have]);
     if have < into.len() {

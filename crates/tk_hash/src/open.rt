@@ -18,7 +18,7 @@ use crate::found::FoundKey;
 use crate::store::HashStore;
 use std::alloc::Global;
 use tk_append::{CountedLog, GroupLog, read_counted, write_or_empty};
-use tk_block::{Closing, StaticHead};
+use tk_block::{CELL_SIZE, Closing, HEADS_PLACE, StaticHead};
 use tk_disk::{Disk, DiskError, zeros};
 use tk_model::{NoMemory, OpenError, PairList, ShardOf, Unopened};
 
@@ -255,7 +255,7 @@ impl<D: Disk> HashStore<D> {
         let mut disk = disk;
         match write_empty(alloc, &mut disk, &head) {
             Ok(()) => {
-                let size = 64 + (8 << p);
+                let size = HEADS_PLACE + (CELL_SIZE << p);
                 let log = GroupLog::of(alloc, disk, head, size);
                 let closing = Closing {
                     size,

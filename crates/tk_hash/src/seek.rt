@@ -15,7 +15,7 @@ ghost use Rattle.tk_hash.specs.Chain.{chain_of, cost_in};
 ghost use Rattle.tk_hash.specs.Seek.{KnowsFile, Sought};
 
 use std::alloc::Global;
-use tk_block::StaticHead;
+use tk_block::{KEY_OFFSET, StaticHead};
 use tk_buckets::{FoundBlock, fill_value, find_block};
 use tk_disk::{Disk, DiskError, zeros};
 use tk_model::{Bytes, bucket, mix};
@@ -24,9 +24,7 @@ use tk_store::StoreError;
 /// The kind of a block that sets a value.
 const SET: u8 = 1;
 /// Head, link, numbers and the first eight letters of the key.
-const FRONT: usize = 48;
-/// Where the key stands in a block.
-const KEY: usize = 40;
+const FRONT: usize = KEY_OFFSET + 8;
 
 /// What stands in memory of a file.
 #[derive(Clone, Copy)]
@@ -127,7 +125,8 @@ fn window(len: usize, key: usize, value: usize) -> usize
     ensures front { 48 ≤ result }
     ensures key { min 65575 (key_offset + key) ≤ result }
 {
-    KEY.saturating_add(key)
+    KEY_OFFSET
+        .saturating_add(key)
         .saturating_add(value)
         .max(FRONT)
         .min(len)
@@ -183,7 +182,7 @@ fn give_value<D: Disk>(
     ensures cause { HasCause (D.fault_count disk.old) (D.fault_count disk.new) result }
     ensures never { NeverFull result }
 {
-    let start = KEY + key.len();
+    let start = KEY_OFFSET + key.len();
     let len = block.value_len as usize;
     if len <= buffer.len() - start {
         out.clear();
