@@ -18,8 +18,8 @@ ghost use Rattle.tk_append.specs.LogPasts.{Settles, Marks, Closes};
 
 use std::alloc::Global;
 use tk_block::{
-    CELL_SIZE, CLOSING_PLACE, Closing, HEADS_PLACE, LinkList, StaticHead, renumber, write_changes,
-    write_closing,
+    CELL_SIZE, CLOSING_PLACE, Closing, HEADS_PLACE, LinkList, StaticHead, renumber,
+    write_closing, write_unnumbered,
 };
 use tk_disk::{Disk, DiskError};
 use tk_model::{Bytes, ChangeList, NoMemory};
@@ -108,7 +108,7 @@ impl<D: Disk> GroupLog<D> {
         ensures end { log_end self.new ≡ log_end self.old }
     {
         self.reserved_text.clear();
-        write_changes(0, changes, self.end, links, &mut self.reserved_text)
+        write_unnumbered(changes, self.end, links, &mut self.reserved_text)
     }
 
     /// Adds the group that is ready, under this number, by one write.

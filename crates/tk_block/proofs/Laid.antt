@@ -1,10 +1,10 @@
 -- What is laid is read, and what is appended is laid.
-use Rattle.std.proofs.Common.{◌≡◌, ℕ, ◌+◌, ◌-◌, List, [], ◌∷◌, ◌++◌, take, drop, length, replicate, Some, refl, sym, ◌∙◌, ap, subst, arith}
+use Rattle.std.proofs.Common.{◌≡◌, ℕ, ◌+◌, ◌-◌, List, [], ◌∷◌, ◌++◌, drop, length, replicate, refl, sym, ◌∙◌, ap, subst, arith}
 use Rattle.std.proofs.lemmas.List.{length-replicate}
 use Rattle.tk_block.specs.declared.block.Body.{Body}
 use Rattle.tk_block.specs.Text.{head_at}
-use Rattle.tk_block.specs.Blocks.{block_text, block_with, body_at, extent_of, room_of}
-use Rattle.tk_block.specs.Layout.{placed, Placed, laid, texts, first_or_none}
+use Rattle.tk_block.specs.Blocks.{block_text, body_at, extent_of, room_of}
+use Rattle.tk_block.specs.Layout.{placed, laid, texts, first_or_none}
 use Rattle.tk_block.specs.Laid.{IsBlockText, AreLaid, AppendedAreLaid, BlocksAreRead}
 use Rattle.tk_block.proofs.BlockReads.{any_head, any_body, block_front, block_rest}
 use Rattle.tk_block.proofs.Lengths.{length-block_with, room_fits}
