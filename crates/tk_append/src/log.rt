@@ -18,8 +18,8 @@ ghost use Rattle.tk_append.specs.LogPasts.{Settles, Marks, Closes};
 
 use std::alloc::Global;
 use tk_block::{
-    CELL_SIZE, CLOSING_PLACE, Closing, HEADS_PLACE, LinkList, StaticHead, renumber,
-    write_closing, write_unnumbered,
+    CELL_SIZE, CLOSING_PLACE, Closing, HEADS_PLACE, LinkList, StaticHead, renumber, write_closing,
+    write_unnumbered,
 };
 use tk_disk::{Disk, DiskError};
 use tk_model::{Bytes, ChangeList, NoMemory};
