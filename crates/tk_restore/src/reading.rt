@@ -9,7 +9,7 @@ ghost use Rattle.tk_restore.specs.Readings.{MayEnd};
 use crate::records::Records;
 use std::alloc::Global;
 use tk_append::{OpenGroup, is_in_turn};
-use tk_block::{Block, body_at, BODY_OFFSET, BLOCK_OVERHEAD};
+use tk_block::{BLOCK_OVERHEAD, BODY_OFFSET, Block, body_at};
 use tk_model::{NoMemory, PairList};
 
 /// The records that complete groups leave, and the changes of a group that is begun.
