@@ -8,7 +8,7 @@ use Rattle.tk_model.specs.declared.record.Pair.{Pair}
 use Rattle.tk_model.specs.declared.record.Change.TheVariants.{Put}
 use Rattle.tk_block.specs.declared.block.Body.{Body}
 use Rattle.tk_block.specs.Blocks.{extent_of, extent_for, body_of, is_nil}
-use Rattle.tk_block.specs.Layout.{Placed, laid, end_of, newest, renewed, links_of, bucket_in}
+use Rattle.tk_block.specs.Layout.{placed, Placed, laid, end_of, newest, renewed, links_of, bucket_in}
 use Rattle.tk_append.specs.Fresh.{fresh_bodies}
 use Rattle.tk_append.specs.Chains.{HeadsAre}
 use Rattle.tk_append.proofs.Layouts.{bodies-more, laid-more}
@@ -31,7 +31,7 @@ begun p base bodies heads links is none =
 
 -- the newest block of a bucket, after a set
 newest_set : (p b slot place number : ℕ) (pair : Pair) (last : Bool) (heads : List ℕ) (before : List Placed) → slot ≡ bucket_in p pair.key → slot < length heads
-    → get_or heads b 0 ≡ newest p b 0 before → get_or (set heads slot place) b 0 ≡ renewed p b (newest p b 0 before) (record { place = place; body = body_of number (Put pair) last })
+    → get_or heads b 0 ≡ newest p b 0 before → get_or (set heads slot place) b 0 ≡ renewed p b (newest p b 0 before) (placed place (body_of number (Put pair) last))
 newest_set p b slot place number pair last heads before is below was = elim (cases_eq (bucket_in p pair.key) b) [
   | inl e ↦
       ap (λ (k : ℕ). get_or (set heads slot place) k 0) (sym e ∙ sym is) ∙ get_or-set_same heads slot place 0 below
@@ -55,14 +55,14 @@ module _ (p base number : ℕ) (each : Bool) (pairs : List Pair) (i : ℕ) (pair
           whole = length-set heads slot place ∙ so_far.heads_are.whole;
           newest_each = λ b within_p.
               newest_set p b slot place number pair last heads before here (omega (arith, below, so_far.heads_are.whole)) (so_far.heads_are.newest_each b within_p)
-              ∙ ap (λ (n : ℕ). renewed p b (newest p b 0 before) (record { place = n; body = body })) so_far.place_is
-              ∙ sym (newest-append p b 0 before (record { place = end_of base front; body = body } ∷ []))
+              ∙ ap (λ (n : ℕ). renewed p b (newest p b 0 before) (placed n body)) so_far.place_is
+              ∙ sym (newest-append p b 0 before (placed (end_of base front) body ∷ []))
               ∙ sym (ap (λ (l : List Placed). newest p b 0 l) (laid-more base number each pairs i pair within is));
         };
         links_are =
             ap (λ (n : ℕ). links ++ n ∷ []) (so_far.heads_are.newest_each slot below ∙ ap (λ (k : ℕ). newest p k 0 before) here)
             ∙ ap (λ (l : List ℕ). l ++ newest p (bucket_in p pair.key) 0 before ∷ []) so_far.links_are
-            ∙ sym (links_of-append p [] before (record { place = end_of base front; body = body } ∷ []))
+            ∙ sym (links_of-append p [] before (placed (end_of base front) body ∷ []))
             ∙ sym (ap (λ (l : List Placed). links_of p [] l) (laid-more base number each pairs i pair within is));
         place_is =
             ap (λ (n : ℕ). place + n) long ∙ ap (λ (n : ℕ). n + extent_of body) so_far.place_is

@@ -9,7 +9,7 @@ use Rattle.tk_block.specs.declared.head.StaticHead.{StaticHead}
 use Rattle.tk_block.specs.Text.{head_at, static_at, base_of}
 use Rattle.tk_block.specs.Blocks.{body_at, block_text, extent_for, extent_of, room_of, group_bodies}
 use Rattle.tk_block.specs.Grammar.{FitsBody}
-use Rattle.tk_block.specs.Layout.{Placed, laid, end_of, texts, links_of, bodies_of, first_or_none}
+use Rattle.tk_block.specs.Layout.{placed, Placed, laid, end_of, texts, links_of, bodies_of, first_or_none}
 use Rattle.tk_block.proofs.Grammar.{statics}
 use Rattle.tk_block.proofs.BlockReads.{block_head, block_body, block_rest}
 use Rattle.tk_block.proofs.Lengths.{length-texts}
@@ -31,7 +31,7 @@ FitAll (b ∷ bs) = FitsBody b × FitAll bs
 fit_all : (next : ℕ) (h : StaticHead) (shard : ShardOf) (least : ℕ) (open_group : Option Placed) (place : ℕ) (bs : List Body) → Fit next h shard least open_group place bs → FitAll bs
 fit_all next h shard least open_group place [] fit = tt
 fit_all next h shard least open_group place (b ∷ bs) fit =
-    (fit.0, fit_all next h shard (cond b.last (b.number + 1) least) (opened_by open_group (record { place = place; body = b })) (place + extent_of b) bs fit.4)
+    (fit.0, fit_all next h shard (cond b.last (b.number + 1) least) (opened_by open_group (placed place b)) (place + extent_of b) bs fit.4)
 
 fit_later : (xs ys : List Body) → FitAll (xs ++ ys) → FitAll ys
 fit_later [] ys fit = fit
@@ -225,7 +225,7 @@ at_end (Some e) n h p w place c is only u = absurd (only e (u.0 e is).0)
 at_block : (o : Option ℕ) (n : ℕ) (h : StaticHead) (p : Past) (w : Walk) (place : ℕ) (b : Body) (bs : List Body) (c : List ℕ) → head_at (drop place c) place ≡ o
     → ((e : ℕ) → IsKnownHead h p place e → e ≡ extent_of b) → ((d : Body) → IsKnownBody h p place d → d ≡ b) → UntornFrom (suc n) h p place c
     → ((e : ℕ) → head_at (drop place c) place ≡ Some e → (v : Walk) → Fronted v (laid (place + extent_of b) bs) (read_on n v (place + extent_of b) (drop (place + extent_of b) c)))
-    → Fronted w (record { place = place; body = b } ∷ laid (place + extent_of b) bs) (read_block w place o (body_at (drop 24 (drop place c)) place) (λ v k. read_on n v (place + k) (drop k (drop place c))))
+    → Fronted w (placed place b ∷ laid (place + extent_of b) bs) (read_block w place o (body_at (drop 24 (drop place c)) place) (λ v k. read_on n v (place + k) (drop k (drop place c))))
 at_block None n h p w place b bs c is heads bodies u go = stop w _
 at_block (Some e) n h p w place b bs c is heads bodies u go =
     front_on (Some e) (body_at (drop 24 (drop place c)) place) n w place b (laid (place + extent_of b) bs) c is refl

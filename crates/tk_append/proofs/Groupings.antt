@@ -11,7 +11,7 @@ use Rattle.tk_model.specs.declared.record.Change.TheVariants.{Put, Drop, Clear}
 use Rattle.tk_block.specs.declared.block.Body.{Body}
 use Rattle.tk_block.specs.Blocks.{body_of, is_nil, is_body, kind_of, group_bodies}
 use Rattle.tk_block.specs.Grammar.{FitsBody}
-use Rattle.tk_block.specs.Layout.{Placed, bodies_of}
+use Rattle.tk_block.specs.Layout.{placed, Placed, bodies_of}
 use Rattle.tk_block.proofs.Bodies.{two_true}
 use Rattle.tk_block.proofs.Layouts.{bodies_of-append}
 use Rattle.tk_append.specs.Log.{AreGroups}
@@ -187,12 +187,12 @@ or_false false is = absurd (cc is)
 
 grown : (bodies : List Body) (least : ℕ) (open_group : Option Placed) (n : ℕ) (c : Change) (last : Bool) (place : ℕ) (groups : List Group) (part : List Change) (m : ℕ)
     → bodies ≡ bodies_of groups ++ part_bodies m part → AreGroups 0 least groups → IsPart least open_group m part → is_in_turn least open_group (body_of n c last) ≡ true → AllFit (c ∷ [])
-    → Parted (bodies ++ body_of n c last ∷ []) (cond last (n + 1) least) (opened_by open_group (record { place = place; body = body_of n c last }))
+    → Parted (bodies ++ body_of n c last ∷ []) (cond last (n + 1) least) (opened_by open_group (placed place (body_of n c last)))
 grown bodies least None n c true place groups part m are legal rest turn fits =
     closed bodies least n groups [] c (empty_part bodies n m groups part rest are) legal (leb-true _ _ (two_true _ _ turn).0) tt fits (alone c)
 grown bodies least None n c false place groups part m are legal rest turn fits =
     let t = two_true _ _ turn in
-    going bodies least n groups [] c (record { place = place; body = body_of n c false }) (empty_part bodies n m groups part rest are) legal (leb-true _ _ t.0) refl tt tt (none_clear c (or_false _ t.1)) fits
+    going bodies least n groups [] c (placed place (body_of n c false)) (empty_part bodies n m groups part rest are) legal (leb-true _ _ t.0) refl tt tt (none_clear c (or_false _ t.1)) fits
 grown bodies least (Some x) n c true place groups part m are legal rest turn fits =
     let t = two_true _ _ turn in
     let same : m ≡ n = sym (eqb-true _ _ t.0 ∙ rest.0) in
@@ -205,9 +205,9 @@ grown bodies least (Some x) n c false place groups part m are legal rest turn fi
 
 -- groups with one block more
 pub parted_more : (bodies : List Body) (least : ℕ) (open_group : Option Placed) (b : Body) (place : ℕ) → Parted bodies least open_group → FitsBody b → IsOfKind b → is_in_turn least open_group b ≡ true
-    → Parted (bodies ++ b ∷ []) (cond b.last (b.number + 1) least) (opened_by open_group (record { place = place; body = b }))
+    → Parted (bodies ++ b ∷ []) (cond b.last (b.number + 1) least) (opened_by open_group (placed place b))
 parted_more bodies least open_group b place so_far fits of_kind turn =
     let is = body_is b fits.0 of_kind in
-    subst (λ (x : Body). Parted (bodies ++ x ∷ []) (cond b.last (b.number + 1) least) (opened_by open_group (record { place = place; body = x }))) is
+    subst (λ (x : Body). Parted (bodies ++ x ∷ []) (cond b.last (b.number + 1) least) (opened_by open_group (placed place x))) is
     (grown bodies least open_group b.number (change_in b) b.last place so_far.groups so_far.part so_far.number so_far.bodies_are so_far.legal so_far.rest
     (subst (λ (x : Body). is_in_turn least open_group x ≡ true) (sym is) turn) (change_fits (change_in b) b.number b.last (subst FitsBody (sym is) fits)))

@@ -7,7 +7,7 @@ use Rattle.tk_model.specs.declared.record.Pair.{Pair}
 use Rattle.tk_model.specs.declared.record.Change.TheVariants.{Put}
 use Rattle.tk_block.specs.declared.block.Body.{Body}
 use Rattle.tk_block.specs.Blocks.{IsSmall, extent_of, body_of, is_nil, block_text}
-use Rattle.tk_block.specs.Layout.{Placed, laid, end_of, texts, first_or_none}
+use Rattle.tk_block.specs.Layout.{placed, Placed, laid, end_of, texts, first_or_none}
 use Rattle.tk_append.specs.Fresh.{fresh_bodies, AllPairsSmall}
 use Rattle.std.specs.Prelude.{◌||◌}
 use Rattle.std.proofs.Math.Seq.{drop-nil}
@@ -69,7 +69,7 @@ end_of-more place number each pairs i pair last within is =
 -- the blocks with one record more
 pub laid-more : (base number : ℕ) (each : Bool) (pairs : List Pair) (i : ℕ) (pair : Pair) → i < length pairs → pair ≡ get_or pairs i pair
     → laid base (take (i + 1) (fresh_bodies number each pairs))
-    ≡ laid base (take i (fresh_bodies number each pairs)) ++ record { place = end_of base (take i (fresh_bodies number each pairs)); body = body_of number (Put pair) (each || is_nil (drop (suc i) pairs)) } ∷ []
+    ≡ laid base (take i (fresh_bodies number each pairs)) ++ placed (end_of base (take i (fresh_bodies number each pairs))) (body_of number (Put pair) (each || is_nil (drop (suc i) pairs))) ∷ []
 laid-more base number each pairs i pair within is =
     ap (λ (l : List Body). laid base l) (bodies-more number each pairs i pair within is)
     ∙ laid-append base (take i (fresh_bodies number each pairs)) (body_of number (Put pair) (each || is_nil (drop (suc i) pairs)) ∷ [])
@@ -84,13 +84,13 @@ pub texts-more : (base number : ℕ) (each : Bool) (pairs : List Pair) (links : 
     → i < length pairs → pair ≡ get_or pairs i pair → last ≡ (each || eqb (i + 1) (length pairs)) → place ≡ end_of base (take i (fresh_bodies number each pairs)) → link ≡ get_or links i 0
     → (text ++ texts (laid base (take i (fresh_bodies number each pairs))) links) ++ block_text (body_of number (Put pair) last) place link
     ≡ text ++ texts (laid base (take (i + 1) (fresh_bodies number each pairs))) links
-texts-more base number each pairs links i pair last place link text within is flagged placed linked =
+texts-more base number each pairs links i pair last place link text within is flagged stands linked =
     let before : List Placed = laid base (take i (fresh_bodies number each pairs)) in
     let count : length before ≡ i = length-laid base (take i (fresh_bodies number each pairs)) ∙ omega (arith, length-take i (fresh_bodies number each pairs), length-fresh_bodies number each pairs) in
     let tail : block_text (body_of number (Put pair) last) place link
-    ≡ texts (record { place = end_of base (take i (fresh_bodies number each pairs)); body = body_of number (Put pair) (each || is_nil (drop (suc i) pairs)) } ∷ []) (drop (length before) links) =
+    ≡ texts (placed (end_of base (take i (fresh_bodies number each pairs))) (body_of number (Put pair) (each || is_nil (drop (suc i) pairs))) ∷ []) (drop (length before) links) =
     ap (λ (b : Bool). block_text (body_of number (Put pair) b) place link) (flagged ∙ ap (λ (b : Bool). each || b) (sym (flag_at pairs i within)))
-    ∙ ap (λ (n : ℕ). block_text (body_of number (Put pair) (each || is_nil (drop (suc i) pairs))) n link) placed
+    ∙ ap (λ (n : ℕ). block_text (body_of number (Put pair) (each || is_nil (drop (suc i) pairs))) n link) stands
     ∙ ap (λ (n : ℕ). block_text (body_of number (Put pair) (each || is_nil (drop (suc i) pairs))) (end_of base (take i (fresh_bodies number each pairs))) n)
     (linked ∙ sym (first-drop links i) ∙ ap (λ (k : ℕ). first_or_none (drop k links)) (sym count))
     ∙ sym (append-nil _) in

@@ -14,7 +14,7 @@ use Rattle.tk_block.specs.declared.head.StaticHead.{StaticHead}
 use Rattle.tk_block.specs.Text.{base_of}
 use Rattle.tk_block.specs.Blocks.{AllSmall, group_bodies}
 use Rattle.tk_block.specs.Layout.{Placed, laid, end_of, links_of, texts, bodies_of, group_text}
-use Rattle.tk_block.specs.Renumber.{IsGroupText, Renumbered}
+use Rattle.tk_block.specs.Renumber.{unchecked_texts, IsGroupText, Renumbered}
 use Rattle.tk_block.proofs.Layouts.{end_of-append, laid-append, links_of-append, length-links_of, texts-append-both, bodies_of-append, end_of-renumbered}
 use Rattle.tk_append.specs.declared.log.GroupLog.{GroupLog}
 use Rattle.tk_append.specs.Log.{HasGroups, blocks_of}
@@ -29,22 +29,22 @@ fit_small (changes.Put p ∷ cs) fit = (record { key_fits = omega (arith, fit.0)
 fit_small (changes.Drop k ∷ cs) fit = (record { key_fits = omega (arith, fit.0); value_fits = omega arith }, fit_small cs fit.1)
 fit_small (changes.Clear ∷ cs) fit = (record { key_fits = omega arith; value_fits = omega arith }, fit_small cs fit)
 
--- a text that may be numbered again
-pub ready_text : (text : List ℕ) (place was number : ℕ) (cs : List Change) (links : List ℕ) → AllFit cs → text ≡ texts (laid place (group_bodies was cs)) links
+-- a text that may be numbered
+pub ready_text : (text : List ℕ) (place number : ℕ) (cs : List Change) (links : List ℕ) → AllFit cs → text ≡ unchecked_texts (laid place (group_bodies 0 cs)) links
     → end_of place (group_bodies number cs) ≤ 2 ^ 40 → IsGroupText text place
-ready_text text place was number cs links fit spelled fits = record {
-  number = was;
+ready_text text place number cs links fit spelled fits = record {
+  number = 0;
   changes = cs;
   links = links;
   small = fit_small cs fit;
-  fits = omega (arith, fits, end_of-renumbered place was number cs);
+  fits = omega (arith, fits, end_of-renumbered place 0 number cs);
   spelled = spelled;
 }
 
 -- a ready group's text under its number
 pub text_is : {D : Type 0} (log : GroupLog D) (number : ℕ) (new : List ℕ) (cs : List Change) (links : List ℕ) → IsReservedText log cs links → Renumbered log.reserved_text new log.end number
     → new ≡ texts (laid log.end (group_bodies number cs)) links
-text_is log number new cs links reserved_text again = again reserved_text.number cs links (fit_small cs reserved_text.fit) reserved_text.text
+text_is log number new cs links reserved_text again = again 0 cs links (fit_small cs reserved_text.fit) reserved_text.text
 
 -- where it ends
 pub end_is : (end number : ℕ) (text : List ℕ) (cs : List Change) (links : List ℕ) → text ≡ texts (laid end (group_bodies number cs)) links → end + length text ≡ end_of end (group_bodies number cs)

@@ -6,7 +6,7 @@ use Rattle.std.proofs.lemmas.Bool.{eq-eqb, ne_eqb, cases_eq}
 use Rattle.std.proofs.lemmas.Bool.Decides.{nat_tests}
 use Rattle.std.proofs.lemmas.List.{length-replicate, get_or-replicate, length-set}
 use Rattle.tk_block.specs.declared.block.Body.{Body}
-use Rattle.tk_block.specs.Layout.{Placed, newest, renewed, is_in, bucket_in}
+use Rattle.tk_block.specs.Layout.{placed, Placed, newest, renewed, is_in, bucket_in}
 use Rattle.tk_block.proofs.Layouts.{newest-append}
 use Rattle.tk_append.specs.Walked.{NewestIn, IsOfKind, live_head}
 
@@ -26,9 +26,9 @@ heads_begin p place heads is some = subst (λ (l : List ℕ). NewestIn p place l
 
 -- a clear empties all buckets
 pub heads_clear : (p place next cleared : ℕ) (heads : List ℕ) (blocks : List Placed) (b : Body) → NewestIn p place heads cleared blocks → (b.kind == 4) ≡ true → place < next
-    → NewestIn p next heads place (blocks ++ record { place = place; body = b } ∷ [])
+    → NewestIn p next heads place (blocks ++ placed place b ∷ [])
 heads_clear p place next cleared heads blocks b so_far is further =
-    let x : Placed = record { place = place; body = b } in
+    let x : Placed = placed place b in
     record {
       whole = so_far.whole;
       newest_each = λ k within.
@@ -43,7 +43,7 @@ kind_in p k b of_kind is =
     let one_or_two : ((b.kind == 1) || (b.kind == 2)) ≡ true = grind (arith, of_kind, is) in
     rw one_or_two refl
 
-renewed_at : (p k found place : ℕ) (b : Body) → IsOfKind b → (b.kind == 4) ≡ false → renewed p k found (record { place = place; body = b }) ≡ cond (eqb (bucket_in p b.key) k) place found
+renewed_at : (p k found place : ℕ) (b : Body) → IsOfKind b → (b.kind == 4) ≡ false → renewed p k found (placed place b) ≡ cond (eqb (bucket_in p b.key) k) place found
 renewed_at p k found place b of_kind is =
     ap (λ (v : Bool). cond v 0 (cond (is_in p k b) place found)) is ∙ ap (λ (v : Bool). cond v place found) (kind_in p k b of_kind is)
 
@@ -66,9 +66,9 @@ below_put slot k place next heads within below further = elim (cases_eq slot k) 
 
 -- a set or a remove is the newest of its bucket
 pub heads_put : (p place next cleared slot : ℕ) (heads : List ℕ) (blocks : List Placed) (b : Body) → NewestIn p place heads cleared blocks → IsOfKind b → (b.kind == 4) ≡ false → slot ≡ bucket_in p b.key → slot < 2 ^ p
-    → place < next → NewestIn p next (set heads slot place) cleared (blocks ++ record { place = place; body = b } ∷ [])
+    → place < next → NewestIn p next (set heads slot place) cleared (blocks ++ placed place b ∷ [])
 heads_put p place next cleared slot heads blocks b so_far of_kind is here below further =
-    let x : Placed = record { place = place; body = b } in
+    let x : Placed = placed place b in
     let within : slot < length heads = omega (arith, so_far.whole) in
     record {
       whole = length-set heads slot place ∙ so_far.whole;

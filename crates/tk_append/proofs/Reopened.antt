@@ -26,7 +26,7 @@ use Rattle.tk_block.specs.Number.{u64_in}
 use Rattle.tk_block.specs.Text.{static_at, static_text, closing_at, closing_text, base_of}
 use Rattle.tk_block.specs.Blocks.{IsSmall, body_of, block_text, extent_of, group_bodies, kind_of, key_of, value_of}
 use Rattle.tk_block.specs.Grammar.{FitsBody}
-use Rattle.tk_block.specs.Layout.{Placed, newest, renewed, is_in, bucket_in, link_of, laid, end_of, texts, links_of, bodies_of, heads_below, heads_text, file_text}
+use Rattle.tk_block.specs.Layout.{placed, Placed, newest, renewed, is_in, bucket_in, link_of, laid, end_of, texts, links_of, bodies_of, heads_below, heads_text, file_text}
 use Rattle.tk_block.proofs.Grammar.{statics, closings, length-static_text, length-closing_text}
 use Rattle.tk_block.proofs.BlockReads.{block_head, block_body, block_link, block_padding, block_rest, change_fits}
 use Rattle.tk_block.proofs.Lengths.{length-block_text, length-heads_below, length-file_text}
@@ -45,7 +45,7 @@ abbrev pub Fit : (next : ℕ) (h : StaticHead) (shard : ShardOf) (least : ℕ) (
 Fit next h shard least open_group place [] = (open_group ≡ None) × (least ≤ next)
 Fit next h shard least open_group place (b ∷ bs) =
     FitsBody b × (not (b.kind == 3) ≡ true) × (is_in_turn least open_group b ≡ true) × (is_in_its_shard h shard b ≡ true)
-    × Fit next h shard (cond b.last (b.number + 1) least) (opened_by open_group (record { place = place; body = b })) (place + extent_of b) bs
+    × Fit next h shard (cond b.last (b.number + 1) least) (opened_by open_group (placed place b)) (place + extent_of b) bs
 
 small_one : (c : Change) → AllFit (c ∷ []) → IsSmall (key_of c) (value_of c)
 small_one (Put p) fit = record { key_fits = omega (arith, fit.0); value_fits = fit.1 }
@@ -129,7 +129,7 @@ module _ (next : ℕ) (h : StaticHead) (shard : ShardOf) where
         no_void c,
         turn_first least n c false most (left_true _ k.0),
         home_of h shard n c false (λ e. (in_its_shard e).0),
-        fit_rest least n (place + extent_of (body_of n c false)) (record { place = place; body = body_of n c false }) d cs rest refl small f.1 k.1 (λ e. (in_its_shard e).1) more,
+        fit_rest least n (place + extent_of (body_of n c false)) (placed place (body_of n c false)) d cs rest refl small f.1 k.1 (λ e. (in_its_shard e).1) more,
       )
 
   fit_some : (least n place : ℕ) (cs : List Change) (rest : List Body) → cs ≢ [] → least ≤ n → n < 2 ^ 64 → AllFit cs → IsClearAlone cs → (h.kind ≡ 1 → AllIn shard cs)
@@ -186,7 +186,7 @@ walk_texts : (next : ℕ) (h : StaticHead) (shard : ShardOf) (n : ℕ) (w : Walk
 walk_texts next h shard n w place [] fuel fit end below = record { v = w; ends = refl; blocks = sym (append-nil w.blocks); whole = fit.0; least = fit.1 }
 walk_texts next h shard zero w place (b ∷ bs) fuel fit end below = absurd (omega arith)
 walk_texts next h shard (suc n) w place (b ∷ bs) fuel fit end below =
-    let x : Placed = record { place = place; body = b } in
+    let x : Placed = placed place b in
     let link = link_of h.p w.blocks b in
     let rest = texts (laid (place + extent_of b) bs) (links_of h.p (w.blocks ++ x ∷ []) (laid (place + extent_of b) bs)) in
     let bytes = block_text b place link ++ rest in
@@ -218,8 +218,8 @@ count_upto place (b ∷ bs) = omega (arith, count_upto (place + extent_of b) bs)
 pub newest_laid : (p k found place m : ℕ) (bs : List Body) → found < m → end_of place bs ≤ m → newest p k found (laid place bs) < m
 newest_laid p k found place m [] below end = below
 newest_laid p k found place m (b ∷ bs) below end =
-    newest_laid p k (renewed p k found (record { place = place; body = b })) (place + extent_of b) m bs
-    (renewed_small p k found m (record { place = place; body = b }) below (omega (arith, end_of-least (place + extent_of b) bs))) end
+    newest_laid p k (renewed p k found (placed place b)) (place + extent_of b) m bs
+    (renewed_small p k found m (placed place b) below (omega (arith, end_of-least (place + extent_of b) bs))) end
 
 word_in : (p n k : ℕ) (blocks : List Placed) (rest : List ℕ) → k < n → take 8 (drop (8 * k) (heads_below p n blocks ++ rest)) ≡ to_be_bytes w64 (newest p k 0 blocks)
 word_in p zero k blocks rest below = absurd (omega arith)

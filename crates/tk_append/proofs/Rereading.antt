@@ -132,7 +132,7 @@ pub refused : (n : ℕ) (w : Walk) (place e : ℕ) (bytes : List ℕ) (b : Body)
 refused n w place e bytes b head body may =
     ap (λ (o : Option ℕ). read_block w place o (body_at (drop 24 bytes) place) (λ v k. read_on n v (place + k) (drop k bytes))) head
     ∙ ap (λ (o : Option Body). read_block w place (Some e) o (λ v k. read_on n v (place + k) (drop k bytes))) body
-    ∙ ap (λ (t : Bool). cond t (read_on n (walked w (record { place = place; body = b })) (place + e) (drop e bytes)) w) may
+    ∙ ap (λ (t : Bool). cond t (read_on n (walked w (record { place = place; extent = e; body = b })) (place + e) (drop e bytes)) w) may
 
 -- the reading ends where no block is read
 stops : (most : ℕ) (h : StaticHead) (f : List ℕ) (place : ℕ) (reading : Reading) (w : Walk) → place < length f → Knows reading w → length f ≤ place + most → (read_on most w place (drop place f)).blocks ≡ read_blocks h f
@@ -164,11 +164,11 @@ extent_some place e bytes head = extent_valid e ((heads place).found bytes e hea
 
 -- the reading goes on behind a block
 goes_on : (most : ℕ) (h : StaticHead) (f : List ℕ) (place e next : ℕ) (b : Body) (new : Reading) (w : Walk) → place < length f → length f ≤ place + most → (read_on most w place (drop place f)).blocks ≡ read_blocks h f
-    → head_at (drop place f) place ≡ Some e → body_at (drop 24 (drop place f)) place ≡ Some b → may_be_read w e b ≡ true → Knows new (walked w (record { place = place; body = b })) → next ≡ place + min e (length f - place)
+    → head_at (drop place f) place ≡ Some e → body_at (drop 24 (drop place f)) place ≡ Some b → may_be_read w e b ≡ true → Knows new (walked w (record { place = place; extent = e; body = b })) → next ≡ place + min e (length f - place)
     → ReadUpto h f next new
 goes_on zero h f place e next b new w here enough rest head body may knows is = absurd (omega (arith, enough, here))
 goes_on (suc n) h f place e next b new w here enough rest head body may knows is =
-    let x : Placed = record { place = place; body = b } in
+    let x : Placed = record { place = place; extent = e; body = b } in
     let on = block_on n w place e (drop place f) b head body may in
     elim (cases_lt e (length f - place)) [
       | inl below ↦
@@ -196,7 +196,7 @@ goes_on (suc n) h f place e next b new w here enough rest head body may knows is
     ]
 
 pub reads_on : (h : StaticHead) (f : List ℕ) (place next : ℕ) (old new : Reading) (s : Standing) → place < length f → IsThere place (take (length f - place) (drop place f)) s
-    → ((w : Walk) → Knows old w → may_be_read w s.extent (body_said s.block) ≡ true) → ((w : Walk) → Knows old w → Knows new (walked w (record { place = place; body = body_said s.block })))
+    → ((w : Walk) → Knows old w → may_be_read w s.extent (body_said s.block) ≡ true) → ((w : Walk) → Knows old w → Knows new (walked w (record { place = place; extent = s.extent; body = body_said s.block })))
     → next ≡ place + min s.extent (length f - place) → ReadUpto h f place old → ReadUpto h f next new
 reads_on h f place next old new s here block may more is upto =
     let at : IsThere place (drop place f) s = subst (λ (l : List ℕ). IsThere place l s) (rest_of place f) block in

@@ -15,6 +15,7 @@ use Rattle.tk_append.specs.declared.walker.Walker.{Walker}
 use Rattle.tk_append.proofs.WalkerSteps.{goes_on, walk_next, walk_end}
 use Rattle.tk_append.proofs.Windows.{cut, shows_both, shows_first, shows_rest, shows_none}
 use Rattle.tk_append.proofs.BlockFronts.{fails_more, follows_any}
+use Rattle.tk_block.specs.Layout.{placed}
 
 -- how far a walk has come: the bytes that it passed, whatever stands behind them, and those that the window has
 pub record Scanned (image : Option (List ℕ)) (h : StaticHead) (shard : ShardOf) (size place : ℕ) (bytes : List ℕ) (walker : Walker) : Type 0 where
@@ -58,12 +59,12 @@ small_first (suc n) (x ∷ xs) a zero = a zero
 small_first (suc n) (x ∷ xs) a (suc i) = small_first n xs (λ k. a (suc k)) i
 
 one_more : (h : StaticHead) (shard : ShardOf) (w : Walk) (place e most : ℕ) (bytes more : List ℕ) (new : Walker) → (p : Passed h shard w place bytes e new)
-    → walk_on (suc most) h shard w place (take e bytes ++ more) ≡ walk_on most h shard (walked w (record { place = place; body = p.body })) (place + e) more
+    → walk_on (suc most) h shard w place (take e bytes ++ more) ≡ walk_on most h shard (walked w (placed place p.body)) (place + e) more
 one_more h shard w place e most bytes more new p =
     let own : length (take e bytes) ≡ e = omega (arith, p.within, length-take e bytes) in
     walk_next most h shard w place (take e bytes ++ more) (omega (arith, own, p.some, length-append (take e bytes) more))
     ∙ goes_on h shard w place e (take e bytes ++ more) p.body (λ v k. walk_on most h shard v (place + k) (drop k (take e bytes ++ more))) (follows_any h shard w place e bytes more p.body p.follows)
-    ∙ ap (λ (l : List ℕ). walk_on most h shard (walked w (record { place = place; body = p.body })) (place + e) l) (drop_at (take e bytes) more e own)
+    ∙ ap (λ (l : List ℕ). walk_on most h shard (walked w (placed place p.body)) (place + e) l) (drop_at (take e bytes) more e own)
 
 next_from : (image : Option (List ℕ)) (h : StaticHead) (shard : ShardOf) (size place e : ℕ) (old bytes : List ℕ) (walker new : Walker) → (s : Scanned image h shard size place old walker) → Shows image place bytes → place + length bytes ≤ size
     → (p : Passed h shard s.w place bytes e new) → Scanned image h shard size (place + e) (drop e bytes) new
@@ -72,7 +73,7 @@ next_from image h shard size place e old bytes walker new s shown held p =
     record {
       passed = s.passed ++ take e bytes;
       count = s.count + 1;
-      w = walked s.w (record { place = place; body = p.body });
+      w = walked s.w (placed place p.body);
       at = p.at;
       joined = λ most more.
           ap (λ (n : ℕ). walk_on n h shard begin (base_of h.p) ((s.passed ++ take e bytes) ++ more)) (omega arith)

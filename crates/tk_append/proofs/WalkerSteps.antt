@@ -4,7 +4,7 @@ use Rattle.std.specs.Prelude.{Option, Some, None, option_map, map, ◌==◌, not
 use Rattle.std.proofs.lemmas.List.{drop_all, take_all, length-drop}
 use Rattle.std.proofs.lemmas.Bool.{eq-eqb, eqb-true, leb-true}
 use Rattle.tk_model.specs.declared.error.OpenError.TheVariants.{BrokenAt}
-use Rattle.tk_block.specs.Layout.{Placed, link_of}
+use Rattle.tk_block.specs.Layout.{placed, Placed, link_of}
 use Rattle.tk_block.specs.Number.{u64_in}
 use Rattle.tk_append.specs.declared.walker.FoundBlock.{FoundBlock}
 use Rattle.tk_append.specs.declared.walker.Walker.{Walker}
@@ -99,7 +99,7 @@ fails_link h shard w place bytes s has so other go =
 
 -- a block that follows
 pub goes_on : (h : StaticHead) (shard : ShardOf) (w : Walk) (place e : ℕ) (bytes : List ℕ) (b : Body) (go : Walk → ℕ → Outcome) → MayFollow h shard w place bytes e b
-    → walk_block h shard w place bytes (head_at bytes place) (body_at (drop 24 bytes) place) go ≡ go (walked w (record { place = place; body = b })) e
+    → walk_block h shard w place bytes (head_at bytes place) (body_at (drop 24 bytes) place) go ≡ go (walked w (placed place b)) e
 goes_on h shard w place e bytes b go f =
     block_is h shard w place e bytes b go f.head f.body ∙ rw (f.stands, eq-eqb _ _ f.linked) refl
 
@@ -114,15 +114,15 @@ records_more blocks x = after_more blocks x []
 -- the walker behind one block more
 pub walked_on : (p place next : ℕ) (old headed new : Walker) (w : Walk) (b : Body)
     → IsAt p place old w → HasKeys new.keys (after_one Hash (change_in b) (records_in w.blocks))
-    → NewestIn p next headed.heads.items headed.cleared (w.blocks ++ record { place = place; body = b } ∷ []) → headed.before ≡ old.before → headed.open_group ≡ old.open_group
+    → NewestIn p next headed.heads.items headed.cleared (w.blocks ++ placed place b ∷ []) → headed.before ≡ old.before → headed.open_group ≡ old.open_group
     → new.heads.items ≡ headed.heads.items → new.cleared ≡ headed.cleared
     → ((least : ℕ) → least ≡ least_behind headed.before → cond b.last (b.number + 1) least ≡ least_behind new.before)
-    → ((first : Option Placed) → headed.open_group ≡ option_map as_open first → new.open_group ≡ option_map as_open (opened_by first (record { place = place; body = b })))
-    → IsAt p next new (walked w (record { place = place; body = b }))
+    → ((first : Option Placed) → headed.open_group ≡ option_map as_open first → new.open_group ≡ option_map as_open (opened_by first (placed place b)))
+    → IsAt p next new (walked w (placed place b))
 walked_on p place next old headed new w b at keys heads before open_group items cleared least first = record {
-  heads = subst (λ (l : List ℕ). NewestIn p next l new.cleared (w.blocks ++ record { place = place; body = b } ∷ [])) (sym items)
-      (subst (λ (n : ℕ). NewestIn p next headed.heads.items n (w.blocks ++ record { place = place; body = b } ∷ [])) (sym cleared) heads);
-  keys = subst (λ (l : List Pair). HasKeys new.keys l) (sym (records_more w.blocks (record { place = place; body = b }))) keys;
+  heads = subst (λ (l : List ℕ). NewestIn p next l new.cleared (w.blocks ++ placed place b ∷ [])) (sym items)
+      (subst (λ (n : ℕ). NewestIn p next headed.heads.items n (w.blocks ++ placed place b ∷ [])) (sym cleared) heads);
+  keys = subst (λ (l : List Pair). HasKeys new.keys l) (sym (records_more w.blocks (placed place b))) keys;
   least = least w.least (at.least ∙ ap least_behind (sym before));
   open_group = first w.open_group (open_group ∙ at.open_group);
 }
@@ -135,7 +135,7 @@ of_kind bytes extent h shard w b valid stands = kinds_left b valid (stood h shar
 
 -- the block is passed
 pub passed : (h : StaticHead) (shard : ShardOf) (w : Walk) (place e : ℕ) (bytes : List ℕ) (b : Body) (walker : Walker) → ((i : ℕ) → get_or bytes i 0 < 256) → MayFollow h shard w place bytes e b
-    → ((next : ℕ) → IsOfKind b → place < next → IsAt h.p next walker (walked w (record { place = place; body = b }))) → Passed h shard w place bytes e walker
+    → ((next : ℕ) → IsOfKind b → place < next → IsAt h.p next walker (walked w (placed place b))) → Passed h shard w place bytes e walker
 passed h shard w place e bytes b walker small follows at =
     let s = stood h shard w bytes e b follows.stands in
     let fits = ((bodies place).found (drop 24 bytes) b follows.body).0 in

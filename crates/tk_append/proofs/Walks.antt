@@ -11,7 +11,7 @@ use Rattle.tk_block.specs.declared.head.StaticHead.{StaticHead}
 use Rattle.tk_block.specs.Number.{u64_in}
 use Rattle.tk_block.specs.Text.{head_at, base_of}
 use Rattle.tk_block.specs.Blocks.{body_at, block_text, extent_of, room_of}
-use Rattle.tk_block.specs.Layout.{Placed, laid, end_of, texts, links_of, link_of}
+use Rattle.tk_block.specs.Layout.{placed, Placed, laid, end_of, texts, links_of, link_of}
 use Rattle.tk_block.proofs.BodyGrammar.{bodies}
 use Rattle.tk_block.proofs.BlockReads.{block_spelled}
 use Rattle.tk_block.proofs.Layouts.{laid-append, end_of-append, links_of-append, texts-append-both, length-links_of}
@@ -63,16 +63,16 @@ texts_more p blocks x =
 
 -- one block more
 grouped_more : (h : StaticHead) (shard : ShardOf) (w : Walk) (place e : ℕ) (front bytes : List ℕ) (b : Body) → AreBytes bytes → MayFollow h shard w place bytes e b → Grouped h shard place front w
-    → Grouped h shard (place + e) (front ++ take e bytes) (walked w (record { place = place; body = b }))
+    → Grouped h shard (place + e) (front ++ take e bytes) (walked w (placed place b))
 grouped_more h shard w place e front bytes b are f g =
     let s = stood h shard w bytes e b f.stands in
     let fits = ((bodies place).found (drop 24 bytes) b f.body).0 in
-    let x : Placed = record { place = place; body = b } in
+    let x : Placed = placed place b in
     record {
       bodies = g.bodies ++ b ∷ [];
       blocks =
           ap (λ (l : List Placed). l ++ x ∷ []) g.blocks
-          ∙ ap (λ (n : ℕ). laid (base_of h.p) g.bodies ++ record { place = n; body = b } ∷ []) g.end
+          ∙ ap (λ (n : ℕ). laid (base_of h.p) g.bodies ++ placed n b ∷ []) g.end
           ∙ sym (laid-append (base_of h.p) g.bodies (b ∷ []));
       end = ap (λ (n : ℕ). place + n) s.is_least ∙ ap (λ (n : ℕ). n + extent_of b) g.end ∙ sym (end_of-append (base_of h.p) g.bodies (b ∷ []));
       text =
@@ -88,11 +88,11 @@ record GoesOn (h : StaticHead) (shard : ShardOf) (w : Walk) (place : ℕ) (bytes
   extent : ℕ
   body : Body
   follows : MayFollow h shard w place bytes extent body
-  rest : go (walked w (record { place = place; body = body })) extent ≡ Ends v
+  rest : go (walked w (placed place body)) extent ≡ Ends v
 
 linked_on : (t : Bool) (h : StaticHead) (shard : ShardOf) (w : Walk) (place e : ℕ) (bytes : List ℕ) (b : Body) (go : Walk → ℕ → Outcome) (v : Walk) → head_at bytes place ≡ Some e → body_at (drop 24 bytes) place ≡ Some b
     → may_stand h shard w bytes e b ≡ true → (u64_in bytes 16 == link_of h.p w.blocks b) ≡ t
-    → cond t (go (walked w (record { place = place; body = b })) e) (FailsAt (place + 16)) ≡ Ends v → GoesOn h shard w place bytes go v
+    → cond t (go (walked w (placed place b)) e) (FailsAt (place + 16)) ≡ Ends v → GoesOn h shard w place bytes go v
 linked_on true h shard w place e bytes b go v head body stands is ends = record {
   extent = e;
   body = b;
@@ -103,7 +103,7 @@ linked_on false h shard w place e bytes b go v head body stands is ends = absurd
 
 stood_on : (t : Bool) (h : StaticHead) (shard : ShardOf) (w : Walk) (place e : ℕ) (bytes : List ℕ) (b : Body) (go : Walk → ℕ → Outcome) (v : Walk) → head_at bytes place ≡ Some e → body_at (drop 24 bytes) place ≡ Some b
     → may_stand h shard w bytes e b ≡ t
-    → cond t (cond (u64_in bytes 16 == link_of h.p w.blocks b) (go (walked w (record { place = place; body = b })) e) (FailsAt (place + 16))) (FailsAt place) ≡ Ends v → GoesOn h shard w place bytes go v
+    → cond t (cond (u64_in bytes 16 == link_of h.p w.blocks b) (go (walked w (placed place b)) e) (FailsAt (place + 16))) (FailsAt place) ≡ Ends v → GoesOn h shard w place bytes go v
 stood_on true h shard w place e bytes b go v head body is ends = linked_on (u64_in bytes 16 == link_of h.p w.blocks b) h shard w place e bytes b go v head body is refl ends
 stood_on false h shard w place e bytes b go v head body is ends = absurd (cc ends)
 
@@ -128,7 +128,7 @@ walk_grouped (suc n) h shard w place front (x ∷ xs) v are ends g =
     let on : GoesOn h shard w place bytes (λ u e. walk_on n h shard u (place + e) (drop e bytes)) v = block_on (head_at bytes place) (body_at (drop 24 bytes) place) h shard w place bytes _ v refl refl ends in
     let within = (stood h shard w bytes on.extent on.body on.follows.stands).within in
     let more = grouped_more h shard w place on.extent front bytes on.body are on.follows g in
-    let all = walk_grouped n h shard (walked w (record { place = place; body = on.body })) (place + on.extent) (front ++ take on.extent bytes) (drop on.extent bytes) v (bytes_drop on.extent bytes are) on.rest more in
+    let all = walk_grouped n h shard (walked w (placed place on.body)) (place + on.extent) (front ++ take on.extent bytes) (drop on.extent bytes) v (bytes_drop on.extent bytes are) on.rest more in
     subst (λ (k : ℕ). Grouped h shard k (front ++ bytes) v) (omega (arith, length-drop on.extent bytes, within))
     (subst (λ (l : List ℕ). Grouped h shard (place + on.extent + length (drop on.extent bytes)) l v)
     (append_assoc front (take on.extent bytes) (drop on.extent bytes) ∙ ap (λ (l : List ℕ). front ++ l) (take-append-drop on.extent bytes)) all)

@@ -6,6 +6,7 @@ use Rattle.tk_model.specs.declared.record.Group.{Group}
 use Rattle.tk_model.specs.declared.record.ShardOf.{ShardOf}
 use Rattle.tk_model.specs.declared.error.OpenError.{OpenError}
 use Rattle.tk_model.specs.declared.error.OpenError.TheVariants as errors
+use Rattle.tk_block.specs.Sizes.{closing_place, heads_place, cell_size}
 use Rattle.tk_block.specs.Text.{is_static, static_at, closing_at, base_of}
 use Rattle.tk_block.specs.Layout.{Placed, bodies_of, end_of}
 use Rattle.tk_model.specs.Records.{replay}
@@ -33,20 +34,20 @@ Finds (Err e) fault = FindsCause e fault
 -- the header of a file, whose first fault can only stand behind it
 pub record HeadIn (kinds f : List ℕ) (h : StaticHead) : Type 0 where
   pub head : static_at f ≡ Some h
-  pub long : 64 ≤ length f
-  pub rest : (writable : Bool) (shard : ShardOf) → first_fault kinds writable shard f ≡ closing_fault writable h shard f (closing_at (drop 32 f))
+  pub long : heads_place ≤ length f
+  pub rest : (writable : Bool) (shard : ShardOf) → first_fault kinds writable shard f ≡ closing_fault writable h shard f (closing_at (drop closing_place f))
 
 -- the closing part of a file, whose first fault can only stand behind it
 pub record ClosingIn (p : ℕ) (f : List ℕ) (c : Closing) : Type 0 where
-  pub closing : closing_at (drop 32 f) ≡ Some c
+  pub closing : closing_at (drop closing_place f) ≡ Some c
   pub size : c.size ≡ length f
   pub long : base_of p ≤ length f
-  pub rest : (writable : Bool) (h : StaticHead) (shard : ShardOf) → h.p ≡ p → closing_fault writable h shard f (closing_at (drop 32 f)) ≡ end_fault writable h c f (walk h shard f)
+  pub rest : (writable : Bool) (h : StaticHead) (shard : ShardOf) → h.p ≡ p → closing_fault writable h shard f (closing_at (drop closing_place f)) ≡ end_fault writable h c f (walk h shard f)
 
 -- the header and the closing part of a file, by its front
 pub record IsFront (image : Option (List ℕ)) (kinds : List ℕ) (found : Found) : Type 0 where
   pub front : List ℕ
-  pub len : length front ≡ 64
+  pub len : length front ≡ heads_place
   pub shown : Shows image 0 front
   pub small : (i : ℕ) → slice_index front i < 256
   pub size : IfSome image (λ f. length f ≡ found.closing.size)
@@ -58,10 +59,10 @@ pub record IsFront (image : Option (List ℕ)) (kinds : List ℕ) (found : Found
 -- the disk has these heads, which are read as these bytes
 pub record HeadsStand (image : Option (List ℕ)) (heads : List ℕ) : Type 0 where
   pub bytes : List ℕ
-  pub len : length bytes ≡ 8 * length heads
-  pub shown : Shows image 64 bytes
+  pub len : length bytes ≡ cell_size * length heads
+  pub shown : Shows image heads_place bytes
   pub small : (i : ℕ) → slice_index bytes i < 256
-  pub same : (p : ℕ) (blocks : List Placed) (f : List ℕ) → HeadsAre p heads blocks → StartsWith (drop 64 f) bytes → head_fault p blocks f (2 ^ p) 0 ≡ None
+  pub same : (p : ℕ) (blocks : List Placed) (f : List ℕ) → HeadsAre p heads blocks → StartsWith (drop heads_place f) bytes → head_fault p blocks f (2 ^ p) 0 ≡ None
 
 -- the disk, where it tells its bytes, has another head first at this place
 abbrev pub HeadFails : (image : Option (List ℕ)) (heads : List ℕ) (place : ℕ) → Type 0
@@ -70,16 +71,16 @@ HeadFails image heads place = IfSome image (λ f. (p : ℕ) (blocks : List Place
 -- the heads of a file, behind which nothing fails
 pub record HasHeads (image : Option (List ℕ)) (h : StaticHead) (w : Walk) (c : Closing) (writable : Bool) : Type 0 where
   pub heads : List ℕ
-  pub len : 64 + length heads ≡ base_of h.p
-  pub shown : Shows image 64 heads
+  pub len : heads_place + length heads ≡ base_of h.p
+  pub shown : Shows image heads_place heads
   pub small : (i : ℕ) → slice_index heads i < 256
   pub whole : w.open_group ≡ None
-  pub ends : (f : List ℕ) → StartsWith (drop 64 f) heads → end_fault writable h c f (Ends w) ≡ None
+  pub ends : (f : List ℕ) → StartsWith (drop heads_place f) heads → end_fault writable h c f (Ends w) ≡ None
 
 -- what was found in a file
 pub record IsFound (shard : ShardOf) (f : List ℕ) (found : Found) : Type 0 where
   pub head : static_at f ≡ Some found.head
-  pub closing : closing_at (drop 32 f) ≡ Some found.closing
+  pub closing : closing_at (drop closing_place f) ≡ Some found.closing
   pub w : Walk
   pub ends : walk found.head shard f ≡ Ends w
   pub whole : w.open_group ≡ None

@@ -1,6 +1,7 @@
 -- The pasts that calls of a log leave.
 use Rattle.std.specs.Prelude.{◌≡◌, ◌⊎◌, List, ℕ, Option, IfSome}
 use Rattle.tk_disk.specs.Past.{Past, settled_on, Writes}
+use Rattle.tk_block.specs.Sizes.{closing_place}
 use Rattle.tk_block.specs.Text.{closing_text}
 use Rattle.tk_block.specs.declared.closing.Closing.{Closing}
 use Rattle.tk_append.specs.LogParts.{with_closing}
@@ -11,7 +12,7 @@ Settles image old new = (new ≡ old) ⊎ IfSome image (λ f. new ≡ settled_on
 
 -- as it was, or a closing part was written, or written and made durable
 abbrev pub Marks : Closing → (image : Option (List ℕ)) (old new : Past) → Type 0
-Marks c image old new = Writes 32 (closing_text c) old new ⊎ IfSome image (λ f. new ≡ settled_on (with_closing c f))
+Marks c image old new = Writes closing_place (closing_text c) old new ⊎ IfSome image (λ f. new ≡ settled_on (with_closing c f))
 
 -- as it was, or all was made durable, and then a closing part may have been written, and made durable
 abbrev pub Closes : Closing → (image : Option (List ℕ)) (old new : Past) → Type 0

@@ -11,10 +11,11 @@ use Rattle.tk_model.specs.declared.record.Change.TheVariants.{Put, Drop, Clear}
 use Rattle.tk_model.specs.declared.record.ShardOf.{ShardOf}
 use Rattle.tk_model.specs.declared.error.OpenError.{OpenError}
 use Rattle.tk_model.specs.declared.error.OpenError.TheVariants.{NotADatabase, BrokenAt}
+use Rattle.tk_block.specs.Sizes.{closing_place, kind_place, next_place, heads_place, cell_size, link_offset, body_offset}
 use Rattle.tk_block.specs.Number.{u64_in}
 use Rattle.tk_block.specs.Text.{head_at, static_at, closing_at, base_of}
 use Rattle.tk_block.specs.Blocks.{extent_of, room_of, body_at}
-use Rattle.tk_block.specs.Layout.{Placed, newest, link_of}
+use Rattle.tk_block.specs.Layout.{placed, Placed, newest, link_of}
 use Rattle.tk_block.specs.declared.block.Body.{Body}
 use Rattle.tk_block.specs.declared.head.StaticHead.{StaticHead}
 use Rattle.tk_block.specs.declared.closing.Closing.{Closing}
@@ -67,7 +68,7 @@ walk_block h shard w place bytes None body go = FailsAt place
 walk_block h shard w place bytes (Some e) None go = FailsAt place
 walk_block h shard w place bytes (Some e) (Some b) go =
     if may_stand h shard w bytes e b
-    then (if u64_in bytes 16 == link_of h.p w.blocks b then go (walked w (record { place = place; body = b })) e else FailsAt (place + 16))
+    then (if u64_in bytes link_offset == link_of h.p w.blocks b then go (walked w (placed place b)) e else FailsAt (place + link_offset))
     else FailsAt place
 
 -- the walk over the blocks from a place on, of which there are at most so many
@@ -75,7 +76,7 @@ abbrev pub walk_on : (most : ℕ) → StaticHead → ShardOf → Walk → (place
 walk_on n h shard w place [] = Ends w
 walk_on zero h shard w place (x ∷ xs) = FailsAt place
 walk_on (suc n) h shard w place (x ∷ xs) =
-    walk_block h shard w place (x ∷ xs) (head_at (x ∷ xs) place) (body_at (drop 24 (x ∷ xs)) place) (λ v e. walk_on n h shard v (place + e) (drop e (x ∷ xs)))
+    walk_block h shard w place (x ∷ xs) (head_at (x ∷ xs) place) (body_at (drop body_offset (x ∷ xs)) place) (λ v e. walk_on n h shard v (place + e) (drop e (x ∷ xs)))
 
 -- the walk over all blocks of a file
 unfoldable pub walk : StaticHead → ShardOf → List ℕ → Outcome
@@ -85,7 +86,7 @@ walk h shard f = walk_on (length f) h shard begin (base_of h.p) (drop (base_of h
 abbrev pub head_fault : (p : ℕ) → List Placed → (f : List ℕ) → (n bucket : ℕ) → Option ℕ
 head_fault p blocks f zero bucket = None
 head_fault p blocks f (suc n) bucket =
-    if u64_in f (64 + 8 * bucket) == newest p bucket 0 blocks then head_fault p blocks f n (bucket + 1) else Some (64 + 8 * bucket)
+    if u64_in f (heads_place + cell_size * bucket) == newest p bucket 0 blocks then head_fault p blocks f n (bucket + 1) else Some (heads_place + cell_size * bucket)
 
 abbrev pub change_in : Body → Change
 change_in b =
@@ -107,8 +108,8 @@ broken_at (Some place) next = Some (BrokenAt place)
 -- the number of records, a next number above every number, and in a file that is to be written one of at most 2^62
 abbrev pub count_fault : (writable : Bool) → Closing → Walk → Option OpenError
 count_fault writable c w =
-    broken_unless ((c.count == length (records_in w.blocks)) && nat_le w.least c.next) 32
-    (broken_unless (not writable || nat_le c.next (2 ^ 62)) 48 None)
+    broken_unless ((c.count == length (records_in w.blocks)) && nat_le w.least c.next) closing_place
+    (broken_unless (not writable || nat_le c.next (2 ^ 62)) next_place None)
 
 abbrev pub place_in : Option Placed → Option ℕ
 place_in None = None
@@ -121,16 +122,16 @@ end_fault writable h c f (Ends w) = broken_at (place_in w.open_group) (broken_at
 
 -- the closing part, then the blocks
 abbrev pub closing_fault : (writable : Bool) → StaticHead → ShardOf → (f : List ℕ) → Option Closing → Option OpenError
-closing_fault writable h shard f None = Some (BrokenAt 32)
+closing_fault writable h shard f None = Some (BrokenAt closing_place)
 closing_fault writable h shard f (Some c) =
-    broken_unless ((c.size == length f) && nat_le (base_of h.p) c.size) 32 (end_fault writable h c f (walk h shard f))
+    broken_unless ((c.size == length f) && nat_le (base_of h.p) c.size) closing_place (end_fault writable h c f (walk h shard f))
 
 -- the kind, then the closing part
 abbrev pub static_fault : (kinds : List ℕ) → (writable : Bool) → ShardOf → (f : List ℕ) → Option StaticHead → Option OpenError
 static_fault kinds writable shard f None = Some NotADatabase
 static_fault kinds writable shard f (Some h) =
-    broken_unless (list_any (λ k. k == h.kind) kinds) 8 (closing_fault writable h shard f (closing_at (drop 32 f)))
+    broken_unless (list_any (λ k. k == h.kind) kinds) kind_place (closing_fault writable h shard f (closing_at (drop closing_place f)))
 
 -- what fails first in a file, where something does
 unfoldable pub first_fault : (kinds : List ℕ) → (writable : Bool) → ShardOf → (f : List ℕ) → Option OpenError
-first_fault kinds writable shard f = static_fault kinds writable shard f (if nat_le 64 (length f) then static_at f else None)
+first_fault kinds writable shard f = static_fault kinds writable shard f (if nat_le heads_place (length f) then static_at f else None)

@@ -1,6 +1,7 @@
 -- What a reading of an image knows.
 use Rattle.std.specs.Prelude.{◌≡◌, ◌⊎◌, ℕ, ◌+◌, ◌≤◌, List, [], ◌∷◌, ◌++◌, length, drop, Some, None, option_map, if◌then◌else◌}
 use Rattle.tk_model.specs.declared.record.Change.{Change}
+use Rattle.tk_block.specs.Sizes.{body_offset}
 use Rattle.tk_block.specs.Text.{head_at}
 use Rattle.tk_block.specs.Blocks.{IsSmall, body_at, body_said}
 use Rattle.tk_block.specs.Layout.{Placed}
@@ -13,12 +14,12 @@ use Rattle.tk_append.specs.declared.restore.Standing.{Standing}
 
 -- at the front of the bytes there is no head or no body
 abbrev pub NoneThere : (place : ℕ) (bytes : List ℕ) → Type 0
-NoneThere place bytes = (head_at bytes place ≡ None) ⊎ (body_at (drop 24 bytes) place ≡ None)
+NoneThere place bytes = (head_at bytes place ≡ None) ⊎ (body_at (drop body_offset bytes) place ≡ None)
 
 -- this extent and this body stand there
 pub record IsThere (place : ℕ) (bytes : List ℕ) (s : Standing) : Type 0 where
   pub head : head_at bytes place ≡ Some s.extent
-  pub body : body_at (drop 24 bytes) place ≡ Some (body_said s.block)
+  pub body : body_at (drop body_offset bytes) place ≡ Some (body_said s.block)
   pub small : IsSmall s.block.key.now s.block.value.now
 
 -- the changes of the group that blocks begin, behind those of one that is begun

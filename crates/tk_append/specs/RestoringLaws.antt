@@ -2,6 +2,7 @@
 use Rattle.std.specs.Prelude.{◌≡◌, ◌⊎◌, ℕ, ◌+◌, ◌≤◌, List, ◌++◌, length}
 use Rattle.tk_disk.specs.Crash.{Torn}
 use Rattle.tk_model.specs.declared.record.Group.{Group}
+use Rattle.tk_block.specs.Sizes.{static_size}
 use Rattle.tk_block.specs.Text.{base_of}
 use Rattle.tk_block.specs.declared.head.StaticHead.{StaticHead}
 use Rattle.tk_append.specs.FileText.{IsFile}
@@ -14,7 +15,7 @@ ReadsBack = (h : StaticHead) (f : List ℕ) (groups : List Group) → IsFile h f
 -- a write in the closing part or the heads, or behind the groups, keeps them
 abbrev pub TornKeeps : Type 0
 TornKeeps =
-    (h : StaticHead) (groups : List Group) (d c : List ℕ) (at n : ℕ) → IsKept h groups d → Torn at n d c → ((32 ≤ at) × (at + n ≤ base_of h.p)) ⊎ (base_of h.p + length (groups_text h groups) ≤ at) → IsKept h groups c
+    (h : StaticHead) (groups : List Group) (d c : List ℕ) (at n : ℕ) → IsKept h groups d → Torn at n d c → ((static_size ≤ at) × (at + n ≤ base_of h.p)) ⊎ (base_of h.p + length (groups_text h groups) ≤ at) → IsKept h groups c
 
 -- a file of groups keeps them
 abbrev pub FilesKeep : Type 0

@@ -3,6 +3,7 @@ use Rattle.std.specs.Prelude.{◌≡◌, ◌⊎◌, ℕ, zero, suc, ◌+◌, ◌
 use Rattle.std.specs.List.{list_any}
 use Rattle.tk_disk.specs.Crash.{PastOnly}
 use Rattle.tk_disk.specs.Past.{Write, Past}
+use Rattle.tk_block.specs.Sizes.{body_offset}
 use Rattle.tk_block.specs.Text.{head_at, static_at, base_of}
 use Rattle.tk_block.specs.Blocks.{body_at}
 use Rattle.tk_block.specs.declared.block.Body.{Body}
@@ -26,7 +27,7 @@ abbrev pub WritesHead : (place extent : ℕ) → Write → Type 0
 WritesHead q e w = (w.at ≤ q) × (head_at (drop (q - w.at) w.bytes) q ≡ Some e)
 
 abbrev pub WritesBody : (place : ℕ) → Body → Write → Type 0
-WritesBody q b w = (w.at ≤ q + 24) × (body_at (drop (q + 24 - w.at) w.bytes) q ≡ Some b)
+WritesBody q b w = (w.at ≤ q + body_offset) × (body_at (drop (q + body_offset - w.at) w.bytes) q ≡ Some b)
 
 abbrev pub WritesHeader : StaticHead → Write → Type 0
 WritesHeader k w = (w.at ≡ 0) × (static_at w.bytes ≡ Some k)
@@ -44,7 +45,7 @@ abbrev pub IsKnownHead : StaticHead → Past → (place extent : ℕ) → Type 0
 IsKnownHead h p q e = ((stood_at h p q ≡ true) × (head_at (drop q p.fixed) q ≡ Some e)) ⊎ AnyWrite (WritesHead q e) p.writes
 
 abbrev pub IsKnownBody : StaticHead → Past → (place : ℕ) → Body → Type 0
-IsKnownBody h p q b = ((stood_at h p q ≡ true) × (body_at (drop (q + 24) p.fixed) q ≡ Some b)) ⊎ AnyWrite (WritesBody q b) p.writes
+IsKnownBody h p q b = ((stood_at h p q ≡ true) × (body_at (drop (q + body_offset) p.fixed) q ≡ Some b)) ⊎ AnyWrite (WritesBody q b) p.writes
 
 abbrev pub IsKnownHeader : Past → StaticHead → Type 0
 IsKnownHeader p k = (static_at p.fixed ≡ Some k) ⊎ AnyWrite (WritesHeader k) p.writes
@@ -54,7 +55,7 @@ abbrev pub UntornFrom : (most : ℕ) → StaticHead → Past → (place : ℕ) �
 UntornFrom zero h p q c = Unit {0}
 UntornFrom (suc n) h p q c =
     ((e : ℕ) → head_at (drop q c) q ≡ Some e → IsKnownHead h p q e × UntornFrom n h p (q + e) c)
-    × ((b : Body) → body_at (drop (q + 24) c) q ≡ Some b → IsKnownBody h p q b)
+    × ((b : Body) → body_at (drop (q + body_offset) c) q ≡ Some b → IsKnownBody h p q b)
 
 -- a static header whose check matches is one that stood or was written
 abbrev pub HasKnownHeader : Past → (c : List ℕ) → Type 0

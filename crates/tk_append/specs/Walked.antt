@@ -4,11 +4,12 @@ use Rattle.tk_model.specs.Hashes.{mix_of}
 use Rattle.tk_model.specs.declared.record.ShardOf.{ShardOf}
 use Rattle.tk_model.specs.declared.error.OpenError.{OpenError}
 use Rattle.tk_model.specs.declared.error.OpenError.TheVariants as errors
+use Rattle.tk_block.specs.Sizes.{extent_offset, link_offset, body_offset}
 use Rattle.tk_block.specs.Number.{u64_in}
 use Rattle.std.specs.Io.{StartsWith}
 use Rattle.tk_block.specs.Text.{head_at, base_of}
 use Rattle.tk_block.specs.Blocks.{IsSmall, body_at, body_said}
-use Rattle.tk_block.specs.Layout.{Placed, newest, link_of}
+use Rattle.tk_block.specs.Layout.{placed, Placed, newest, link_of}
 use Rattle.tk_block.specs.declared.block.Body.{Body}
 use Rattle.tk_block.specs.declared.head.StaticHead.{StaticHead}
 use Rattle.tk_append.specs.Keys.{HasKeys}
@@ -46,14 +47,14 @@ pub record IsAt (p place : ℕ) (walker : Walker) (w : Walk) : Type 0 where
 -- the block at the front of the bytes may follow the walk
 pub record MayFollow (h : StaticHead) (shard : ShardOf) (w : Walk) (place : ℕ) (bytes : List ℕ) (extent : ℕ) (b : Body) : Type 0 where
   pub head : head_at bytes place ≡ Some extent
-  pub body : body_at (drop 24 bytes) place ≡ Some b
+  pub body : body_at (drop body_offset bytes) place ≡ Some b
   pub stands : may_stand h shard w bytes extent b ≡ true
-  pub linked : u64_in bytes 16 ≡ link_of h.p w.blocks b
+  pub linked : u64_in bytes link_offset ≡ link_of h.p w.blocks b
 
 -- the block fails at this place, whatever follows
 abbrev pub Fails : (h : StaticHead) (shard : ShardOf) (w : Walk) (place : ℕ) (bytes : List ℕ) → OpenError → Type 0
 Fails h shard w place bytes (errors.BrokenAt at) =
-    (go : Walk → ℕ → Outcome) → walk_block h shard w place bytes (head_at bytes place) (body_at (drop 24 bytes) place) go ≡ FailsAt at
+    (go : Walk → ℕ → Outcome) → walk_block h shard w place bytes (head_at bytes place) (body_at (drop body_offset bytes) place) go ≡ FailsAt at
 Fails h shard w place bytes errors.NotADatabase = ⊥
 Fails h shard w place bytes errors.Fault = ⊥
 Fails h shard w place bytes errors.NoMemory = Unit {0}
@@ -61,13 +62,13 @@ Fails h shard w place bytes errors.NoMemory = Unit {0}
 -- no block stands at the front of the bytes
 abbrev pub HasNone : (place : ℕ) (bytes : List ℕ) → Type 0
 HasNone place bytes =
-    (h : StaticHead) (shard : ShardOf) (w : Walk) (go : Walk → ℕ → Outcome) → walk_block h shard w place bytes (head_at bytes place) (body_at (drop 24 bytes) place) go ≡ FailsAt place
+    (h : StaticHead) (shard : ShardOf) (w : Walk) (go : Walk → ℕ → Outcome) → walk_block h shard w place bytes (head_at bytes place) (body_at (drop body_offset bytes) place) go ≡ FailsAt place
 
 -- this block stands there
 pub record HasBlock (place : ℕ) (bytes : List ℕ) (s : FoundBlock) : Type 0 where
   pub head : head_at bytes place ≡ Some s.extent
-  pub body : body_at (drop 24 bytes) place ≡ Some (body_said s.block)
-  pub long : 24 ≤ length bytes
+  pub body : body_at (drop body_offset bytes) place ≡ Some (body_said s.block)
+  pub long : body_offset ≤ length bytes
   pub hash : s.hash ≡ mix_of s.block.key.now
   pub small : IsSmall s.block.key.now s.block.value.now
 
@@ -84,7 +85,7 @@ IsOfKind b = (((b.kind == 1) || (b.kind == 2)) || (b.kind == 4)) ≡ true
 pub record Passed (h : StaticHead) (shard : ShardOf) (w : Walk) (place : ℕ) (bytes : List ℕ) (extent : ℕ) (walker : Walker) : Type 0 where
   pub body : Body
   pub follows : MayFollow h shard w place bytes extent body
-  pub at : IsAt h.p (place + extent) walker (walked w (record { place = place; body = body }))
+  pub at : IsAt h.p (place + extent) walker (walked w (placed place body))
   pub some : 0 < extent
   pub within : extent ≤ length bytes
   pub small : (i : ℕ) → slice_index bytes i < 256
@@ -95,7 +96,7 @@ Shows image at xs = IfSome image (λ f. StartsWith (drop at f) xs)
 
 -- the bytes at the front of those that are left have the block that stands there, where it is no longer than a block can be, or they are all
 abbrev pub HoldsBlock : (left : ℕ) (bytes : List ℕ) → Type 0
-HoldsBlock left bytes = (length bytes ≡ left) ⊎ ((24 ≤ length bytes) × (u64_in bytes 4 ≤ 2 ^ 26 → u64_in bytes 4 ≤ length bytes))
+HoldsBlock left bytes = (length bytes ≡ left) ⊎ ((body_offset ≤ length bytes) × (u64_in bytes extent_offset ≤ 2 ^ 26 → u64_in bytes extent_offset ≤ length bytes))
 
 -- the walk to the end of a file of this size, and what is known there
 pub record WalkedAll (image : Option (List ℕ)) (h : StaticHead) (shard : ShardOf) (size : ℕ) (walker : Walker) : Type 0 where

@@ -4,6 +4,7 @@ ghost use Rattle.std.specs.Io.{StartsWith};
 ghost use Rattle.tk_disk.specs.Crash.{OnlyReads};
 ghost use Rattle.tk_model.specs.declared.record.ShardOf.{ShardOf as Shard};
 ghost use Rattle.tk_model.specs.declared.error.OpenError.TheVariants as OpenError;
+ghost use Rattle.tk_block.specs.Sizes.{closing_place, heads_place, cell_size};
 ghost use Rattle.tk_block.specs.Text.{closing_at, static_at, base_of};
 ghost use Rattle.tk_block.specs.declared.head.StaticHead.{StaticHead as Head};
 ghost use Rattle.tk_append.specs.Chains.{HeadsAre};
@@ -18,7 +19,10 @@ use crate::scan::walk_file;
 use crate::walker::Walker;
 use crate::window::read_piece;
 use std::alloc::Global;
-use tk_block::{Closing, StaticHead, base_of, read_closing, read_static};
+use tk_block::{
+    CLOSING_PLACE, Closing, HEADS_PLACE, KIND_PLACE, NEXT_PLACE, STATIC_SIZE, StaticHead, base_of,
+    read_closing, read_static,
+};
 use tk_disk::{Disk, DiskError};
 use tk_model::{OpenError, ShardOf};
 
@@ -61,7 +65,7 @@ fn is_among(kinds: &[u8], kind: u8) -> bool
 
 /// The header of a file of one of these kinds, by the file's front.
 fn head_in(front: &[u8], kinds: &[u8]) -> Result<StaticHead, OpenError>
-    requires long { length front.now ≡ 64 }
+    requires long { length front.now ≡ heads_place }
     ensures found { (f : List ℕ) → StartsWith f front.now → IfOk result (HeadIn kinds.now f) }
     ensures p { IfOk result (λ h. h.p ≤ 24) }
     ensures fails { (writable : Bool) (shard : Shard) (f : List ℕ) → StartsWith f front.now
@@ -73,7 +77,7 @@ fn head_in(front: &[u8], kinds: &[u8]) -> Result<StaticHead, OpenError>
         return Err(OpenError::NotADatabase);
     };
     if !is_among(kinds, head.kind) {
-        return Err(OpenError::BrokenAt(8));
+        return Err(OpenError::BrokenAt(KIND_PLACE));
     }
     Ok(head)
 }
@@ -81,22 +85,22 @@ fn head_in(front: &[u8], kinds: &[u8]) -> Result<StaticHead, OpenError>
 /// The closing part of a file of this size, by the file's front.
 fn closing_in(front: &[u8], size: u64, p: u8) -> Result<Closing, OpenError>
     requires p { p ≤ 24 }
-    requires long { length front.now ≡ 64 }
+    requires long { length front.now ≡ heads_place }
     ensures found { (f : List ℕ) → StartsWith f front.now → length f ≡ size
         → IfOk result (ClosingIn p f) }
     ensures fails { (writable : Bool) (h : Head) (shard : Shard) (f : List ℕ)
         → StartsWith f front.now → length f ≡ size → h.p ≡ p
         → IfErr result
-        (λ e. FindsCause e (closing_fault writable h shard f (closing_at (drop 32 f)))) }
+        (λ e. FindsCause e (closing_fault writable h shard f (closing_at (drop closing_place f)))) }
     ensures no_fault { IsErrOf result OpenError.Fault → ⊥ }
     ensures size { IfOk result (λ c. c.size ≡ size) }
     ensures base { IfOk result (λ c. base_of p ≤ c.size) }
 {
-    let Some(closing) = read_closing(&front[32..]) else {
-        return Err(OpenError::BrokenAt(32));
+    let Some(closing) = read_closing(&front[STATIC_SIZE..]) else {
+        return Err(OpenError::BrokenAt(CLOSING_PLACE));
     };
     if closing.size != size || closing.size < base_of(p) {
-        return Err(OpenError::BrokenAt(32));
+        return Err(OpenError::BrokenAt(CLOSING_PLACE));
     }
     Ok(closing)
 }
@@ -112,7 +116,7 @@ fn read_front<D: Disk>(disk: &mut D, kinds: &[u8]) -> Result<Found, OpenError>
         disk.new }
 {
     let size = length_of(disk)?;
-    if size < 64 {
+    if size < HEADS_PLACE {
         return Err(OpenError::NotADatabase);
     }
     let mut front = [0; 64];
@@ -135,10 +139,10 @@ fn check_count(
 {
     let is_above = before.is_none_or(|number| number < closing.next);
     if closing.count != count as u64 || !is_above {
-        return Err(OpenError::BrokenAt(32));
+        return Err(OpenError::BrokenAt(CLOSING_PLACE));
     }
     if writable && closing.next > 1 << 62 {
-        return Err(OpenError::BrokenAt(48));
+        return Err(OpenError::BrokenAt(NEXT_PLACE));
     }
     Ok(())
 }
@@ -157,7 +161,8 @@ fn check_end<D: Disk>(
     ensures ends { (h : Head) (place : ℕ) (w : Walk) → IsAt h.p place walker.old w
         → OnOk result (HasHeads (D.image disk.old) h w closing.now writable) }
     ensures fails { (h : Head) (place : ℕ) (w : Walk) → IsAt h.p place walker.old w
-        → IfSome (D.image disk.old) (λ f. 64 + 8 * length walker.old.heads.items ≤ length f
+        → IfSome (D.image disk.old) (λ f.
+        heads_place + cell_size * length walker.old.heads.items ≤ length f
         → IfErr result (λ e. TellsCause e (end_fault writable h closing.now f (Ends w)))) }
     ensures image { D.image disk.new ≡ D.image disk.old }
     ensures cause { HasOpenCause (D.fault_count disk.old) (D.fault_count disk.new) result }

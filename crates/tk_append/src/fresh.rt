@@ -13,7 +13,7 @@ use crate::blocks::{put_records, put_words};
 use crate::chains::chains_of;
 use crate::pieces::{PIECE, flush};
 use std::alloc::Global;
-use tk_block::{Closing, StaticHead, write_closing, write_static};
+use tk_block::{CLOSING_PLACE, Closing, HEADS_PLACE, StaticHead, write_closing, write_static};
 use tk_disk::{Disk, DiskError};
 use tk_model::{Bytes, Pair, PairList};
 
@@ -40,7 +40,7 @@ fn write_records<D: Disk>(
     let chains = chains_of(alloc, p, pairs)?;
     let mut waiting = Bytes::with_capacity(alloc, PIECE)?;
     disk.write_at(0, &[0; 64])?;
-    let mut at = 64;
+    let mut at = HEADS_PLACE;
     put_words(disk, &mut at, &mut waiting, &chains.heads)?;
     put_records(
         disk,
@@ -90,7 +90,7 @@ fn write_rest<D: Disk>(
     let count = pairs.len() as u64;
     let next = next_of(number, count);
     let closing = Closing { size, count, next };
-    disk.write_at(32, &write_closing(&closing))?;
+    disk.write_at(CLOSING_PLACE, &write_closing(&closing))?;
     disk.sync(true)?;
     Ok(())
 }

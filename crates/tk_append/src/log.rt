@@ -7,6 +7,7 @@ ghost use Rattle.tk_disk.specs.Past.{Writes, settled_on};
 ghost use Rattle.tk_model.specs.declared.record.Change.{Change};
 ghost use Rattle.tk_model.specs.declared.record.Group.{Group};
 ghost use Rattle.tk_model.specs.Records.{AllFit};
+ghost use Rattle.tk_block.specs.Sizes.{closing_place, closing_size, heads_place, cell_size};
 ghost use Rattle.tk_block.specs.Text.{base_of, closing_text};
 ghost use Rattle.tk_block.specs.Blocks.{group_bodies};
 ghost use Rattle.tk_block.specs.Layout.{group_text, laid, end_of, links_of};
@@ -16,7 +17,10 @@ ghost use Rattle.tk_append.specs.LogParts.{log_disk, log_head, log_end, with_dis
 ghost use Rattle.tk_append.specs.LogPasts.{Settles, Marks, Closes};
 
 use std::alloc::Global;
-use tk_block::{Closing, LinkList, StaticHead, renumber, write_changes, write_closing};
+use tk_block::{
+    CELL_SIZE, CLOSING_PLACE, Closing, HEADS_PLACE, LinkList, StaticHead, renumber, write_closing,
+    write_unnumbered,
+};
 use tk_disk::{Disk, DiskError};
 use tk_model::{Bytes, ChangeList, NoMemory};
 
@@ -104,7 +108,7 @@ impl<D: Disk> GroupLog<D> {
         ensures end { log_end self.new ≡ log_end self.old }
     {
         self.reserved_text.clear();
-        write_changes(0, changes, self.end, links, &mut self.reserved_text)
+        write_unnumbered(changes, self.end, links, &mut self.reserved_text)
     }
 
     /// Adds the group that is ready, under this number, by one write.
@@ -196,7 +200,7 @@ impl<D: Disk> GroupLog<D> {
 
     /// Writes the closing part of the header.
     fn put_closing(&mut self, closing: &Closing) -> Result<(), DiskError>
-        requires there { IfSome (D.image (log_disk self.old)) (λ f. 64 ≤ length f) }
+        requires there { IfSome (D.image (log_disk self.old)) (λ f. heads_place ≤ length f) }
         ensures written { OnOk result (D.image (log_disk self.new) ≡ option_map
             (with_closing closing.now) (D.image (log_disk self.old))) }
         ensures stands { (groups : List Group) → Stands D.image self.old groups
@@ -208,21 +212,22 @@ impl<D: Disk> GroupLog<D> {
         ensures taken { D.taken_count (log_disk self.new) ≡ D.taken_count (log_disk self.old) }
         ensures cause { HasCause (D.fault_count (log_disk self.old))
             (D.fault_count (log_disk self.new)) result }
-        ensures crash { Follows (Torn 32 32) (D.may_leave (log_disk self.old))
+        ensures crash { Follows (Torn closing_place closing_size) (D.may_leave (log_disk self.old))
             (D.may_leave (log_disk self.new)) }
         ensures time { LeavesOnly D.moment D.left_since (log_disk self.old) (log_disk self.new)
-            (λ c. (d : List ℕ) × D.may_leave (log_disk self.old) d × Torn 32 32 d c) }
-        ensures past { Writes 32 (closing_text closing.now) (D.past (log_disk self.old))
+            (λ c. (d : List ℕ) × D.may_leave (log_disk self.old) d
+            × Torn closing_place closing_size d c) }
+        ensures past { Writes closing_place (closing_text closing.now) (D.past (log_disk self.old))
             (D.past (log_disk self.new)) }
         ensures pasts { PastOnly D.moment D.left_with (log_disk self.old) (log_disk self.new)
-            (Writes 32 (closing_text closing.now) (D.past (log_disk self.old))) }
+            (Writes closing_place (closing_text closing.now) (D.past (log_disk self.old))) }
     {
-        self.disk.write_at(32, &write_closing(closing))
+        self.disk.write_at(CLOSING_PLACE, &write_closing(closing))
     }
 
     /// Writes that the file is open, and makes that durable.
     pub fn mark_open(&mut self) -> Result<(), DiskError>
-        requires there { IfSome (D.image (log_disk self.old)) (λ f. 64 ≤ length f) }
+        requires there { IfSome (D.image (log_disk self.old)) (λ f. heads_place ≤ length f) }
         ensures written { OnOk result (D.image (log_disk self.new) ≡ option_map
             (with_closing open_mark) (D.image (log_disk self.old))) }
         ensures stands { (groups : List Group) → Stands D.image self.old groups
@@ -234,12 +239,13 @@ impl<D: Disk> GroupLog<D> {
         ensures taken { D.taken_count (log_disk self.new) ≡ D.taken_count (log_disk self.old) }
         ensures cause { HasCause (D.fault_count (log_disk self.old))
             (D.fault_count (log_disk self.new)) result }
-        ensures crash { Follows (Torn 32 32) (D.may_leave (log_disk self.old))
+        ensures crash { Follows (Torn closing_place closing_size) (D.may_leave (log_disk self.old))
             (D.may_leave (log_disk self.new)) }
         ensures durable { OnOk result (IfSome (D.image (log_disk self.new))
             (λ f. Only f (D.may_leave (log_disk self.new)))) }
         ensures time { LeavesOnly D.moment D.left_since (log_disk self.old) (log_disk self.new)
-            (λ c. (d : List ℕ) × D.may_leave (log_disk self.old) d × Torn 32 32 d c) }
+            (λ c. (d : List ℕ) × D.may_leave (log_disk self.old) d
+            × Torn closing_place closing_size d c) }
         ensures past { Marks open_mark (D.image (log_disk self.old))
             (D.past (log_disk self.old)) (D.past (log_disk self.new)) }
         ensures pasts { PastOnly D.moment D.left_with (log_disk self.old) (log_disk self.new)
@@ -258,7 +264,7 @@ impl<D: Disk> GroupLog<D> {
 
     /// Makes all durable, and then that the file is closed with this count of records and this next number.
     pub fn close_log(&mut self, count: u64, next: u64) -> Result<(), DiskError>
-        requires there { IfSome (D.image (log_disk self.old)) (λ f. 64 ≤ length f) }
+        requires there { IfSome (D.image (log_disk self.old)) (λ f. heads_place ≤ length f) }
         ensures written { OnOk result (D.image (log_disk self.new) ≡ option_map
             (with_closing (record { size = log_end self.old; count = count; next = next }))
             (D.image (log_disk self.old))) }
@@ -271,15 +277,16 @@ impl<D: Disk> GroupLog<D> {
         ensures taken { D.taken_count (log_disk self.new) ≡ D.taken_count (log_disk self.old) }
         ensures cause { HasCause (D.fault_count (log_disk self.old))
             (D.fault_count (log_disk self.new)) result }
-        ensures crash { Follows (Torn 32 32) (D.may_leave (log_disk self.old))
+        ensures crash { Follows (Torn closing_place closing_size) (D.may_leave (log_disk self.old))
             (D.may_leave (log_disk self.new)) }
         ensures durable { OnOk result (IfSome (D.image (log_disk self.new))
             (λ f. Only f (D.may_leave (log_disk self.new)))) }
         ensures time { LeavesOnly D.moment D.left_since (log_disk self.old) (log_disk self.new)
-            (λ c. (d : List ℕ) × D.may_leave (log_disk self.old) d × Torn 32 32 d c) }
+            (λ c. (d : List ℕ) × D.may_leave (log_disk self.old) d
+            × Torn closing_place closing_size d c) }
         ensures behind { IfSome (D.image (log_disk self.old)) (λ f. LeavesOnly D.moment D.left_since
             (log_disk self.old) (log_disk self.new) (λ c. D.may_leave (log_disk self.old) c
-            ⊎ Torn 32 32 f c)) }
+            ⊎ Torn closing_place closing_size f c)) }
         ensures past { Closes (record { size = log_end self.old; count = count; next = next })
             (D.image (log_disk self.old)) (D.past (log_disk self.old))
             (D.past (log_disk self.new)) }
@@ -298,11 +305,12 @@ impl<D: Disk> GroupLog<D> {
     /// Writes the cells of heads from a bucket's on.
     pub fn set_cells(&mut self, bucket: u64, text: &[u8]) -> Result<(), DiskError>
         requires p { (log_head self.old).p ≤ 24 }
-        requires text { 64 + 8 * bucket + length text.now ≤ base_of (log_head self.old).p }
+        requires text { heads_place + cell_size * bucket + length text.now
+            ≤ base_of (log_head self.old).p }
         requires there { IfSome (D.image (log_disk self.old)) (λ f. base_of (log_head self.old).p
             ≤ length f) }
         ensures written { OnOk result (D.image (log_disk self.new) ≡ option_map
-            (put_at (64 + 8 * bucket) text.now) (D.image (log_disk self.old))) }
+            (put_at (heads_place + cell_size * bucket) text.now) (D.image (log_disk self.old))) }
         ensures stands { (groups : List Group) → Stands D.image self.old groups
             → OnOk result (Stands D.image self.new groups) }
         ensures head { log_head self.new ≡ log_head self.old }
@@ -312,16 +320,16 @@ impl<D: Disk> GroupLog<D> {
         ensures taken { D.taken_count (log_disk self.new) ≡ D.taken_count (log_disk self.old) }
         ensures cause { HasCause (D.fault_count (log_disk self.old))
             (D.fault_count (log_disk self.new)) result }
-        ensures crash { Follows (Torn (64 + 8 * bucket) (length text.now))
+        ensures crash { Follows (Torn (heads_place + cell_size * bucket) (length text.now))
             (D.may_leave (log_disk self.old)) (D.may_leave (log_disk self.new)) }
         ensures time { LeavesOnly D.moment D.left_since (log_disk self.old) (log_disk self.new)
             (λ c. (d : List ℕ) × D.may_leave (log_disk self.old) d
-            × Torn (64 + 8 * bucket) (length text.now) d c) }
-        ensures past { Writes (64 + 8 * bucket) text.now (D.past (log_disk self.old))
-            (D.past (log_disk self.new)) }
+            × Torn (heads_place + cell_size * bucket) (length text.now) d c) }
+        ensures past { Writes (heads_place + cell_size * bucket) text.now
+            (D.past (log_disk self.old)) (D.past (log_disk self.new)) }
         ensures pasts { PastOnly D.moment D.left_with (log_disk self.old) (log_disk self.new)
-            (Writes (64 + 8 * bucket) text.now (D.past (log_disk self.old))) }
+            (Writes (heads_place + cell_size * bucket) text.now (D.past (log_disk self.old))) }
     {
-        self.disk.write_at(64 + 8 * bucket, text)
+        self.disk.write_at(HEADS_PLACE + CELL_SIZE * bucket, text)
     }
 }

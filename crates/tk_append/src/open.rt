@@ -6,6 +6,7 @@ ghost use Rattle.tk_model.specs.declared.error.OpenError.TheVariants as OpenErro
 ghost use Rattle.tk_disk.specs.Crash.{Torn, Follows, Within, Only, LeavesOnly, OnlyReads, PastOnly};
 ghost use Rattle.tk_disk.specs.Disk.{Rose, HasCause};
 ghost use Rattle.tk_disk.specs.Past.{settled_on};
+ghost use Rattle.tk_block.specs.Sizes.{closing_place, closing_size};
 ghost use Rattle.tk_block.specs.Text.{static_at};
 ghost use Rattle.tk_append.specs.Opening.{first_fault};
 ghost use Rattle.tk_append.specs.Log.{Tells};
@@ -35,7 +36,7 @@ fn begin<D: Disk>(log: &mut GroupLog<D>, writable: bool) -> Result<(), DiskError
     ensures told { is_some (D.image (log_disk log.new)) ≡ is_some (D.image (log_disk log.old)) }
     ensures cause { HasCause (D.fault_count (log_disk log.old)) (D.fault_count (log_disk log.new))
         result }
-    ensures crash { Follows (Torn 32 32) (D.may_leave (log_disk log.old))
+    ensures crash { Follows (Torn closing_place closing_size) (D.may_leave (log_disk log.old))
         (D.may_leave (log_disk log.new)) }
     ensures crash_reads { writable ≡ false → Within (D.may_leave (log_disk log.old))
         (D.may_leave (log_disk log.new)) }
@@ -43,7 +44,8 @@ fn begin<D: Disk>(log: &mut GroupLog<D>, writable: bool) -> Result<(), DiskError
         → OnOk result (IfSome (D.image (log_disk log.new))
         (λ f. Only f (D.may_leave (log_disk log.new)))) }
     ensures time { LeavesOnly D.moment D.left_since (log_disk log.old) (log_disk log.new)
-        (λ c. (d : List ℕ) × D.may_leave (log_disk log.old) d × Torn 32 32 d c) }
+        (λ c. (d : List ℕ) × D.may_leave (log_disk log.old) d
+        × Torn closing_place closing_size d c) }
     ensures past { Marks open_mark (D.image (log_disk log.old))
         (D.past (log_disk log.old)) (D.past (log_disk log.new)) }
     ensures pasts { PastOnly D.moment D.left_with (log_disk log.old) (log_disk log.new)
@@ -83,10 +85,10 @@ pub fn open_log<D: Disk>(
     ensures back_told { IfErr result (λ u. is_some (D.image u.disk) ≡ is_some (D.image disk)) }
     ensures durable { writable ≡ true → IfOk result (λ log. IfSome (D.image (log_disk log))
         (λ f. Only f (D.may_leave (log_disk log)))) }
-    ensures crash { IfOk result (λ log. Follows (Torn 32 32) (D.may_leave disk)
+    ensures crash { IfOk result (λ log. Follows (Torn closing_place closing_size) (D.may_leave disk)
         (D.may_leave (log_disk log))) }
-    ensures back_crash { IfErr result (λ u. Follows (Torn 32 32) (D.may_leave disk)
-        (D.may_leave u.disk)) }
+    ensures back_crash { IfErr result (λ u. Follows (Torn closing_place closing_size)
+        (D.may_leave disk) (D.may_leave u.disk)) }
     ensures crash_reads { writable ≡ false
         → IfOk result (λ log. Within (D.may_leave disk) (D.may_leave (log_disk log))) }
     ensures counted { IfOk result (λ log. D.fault_count (log_disk log) ≡ D.fault_count disk) }
@@ -94,9 +96,9 @@ pub fn open_log<D: Disk>(
     ensures cause { IfErr result (λ u. u.cause ≡ OpenError.Fault → Rose (D.fault_count disk)
         (D.fault_count u.disk)) }
     ensures time { IfOk result (λ log. LeavesOnly D.moment D.left_since disk (log_disk log)
-        (λ c. (d : List ℕ) × D.may_leave disk d × Torn 32 32 d c)) }
+        (λ c. (d : List ℕ) × D.may_leave disk d × Torn closing_place closing_size d c)) }
     ensures back_time { IfErr result (λ u. LeavesOnly D.moment D.left_since disk u.disk
-        (λ c. (d : List ℕ) × D.may_leave disk d × Torn 32 32 d c)) }
+        (λ c. (d : List ℕ) × D.may_leave disk d × Torn closing_place closing_size d c)) }
     ensures past { IfOk result (λ log. Marks open_mark (D.image disk) (D.past disk)
         (D.past (log_disk log))) }
     ensures back_past { IfErr result (λ u. Marks open_mark (D.image disk) (D.past disk)

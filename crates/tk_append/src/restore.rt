@@ -8,7 +8,9 @@ ghost use Rattle.tk_append.specs.Reread.{NoneThere, IsThere};
 use crate::walker::{OpenGroup, is_in_turn};
 use std::alloc::Global;
 use std::mem;
-use tk_block::{Block, StaticHead, base_of, body_at, read_head, read_static};
+use tk_block::{
+    BLOCK_OVERHEAD, BODY_OFFSET, Block, StaticHead, base_of, body_at, read_head, read_static,
+};
 use tk_model::{Bytes, Change, ChangeList, Group, GroupList, NoMemory, Pair};
 
 /// A block that stands at a place, with the extent that its head says.
@@ -22,11 +24,11 @@ struct Standing<'a> {
 fn block_at(bytes: &[u8], place: u64) -> Option<Standing<'_>>
     ensures { MatchOption result (NoneThere place bytes.now) (IsThere place bytes.now) }
 {
-    if bytes.len() < 24 {
+    if bytes.len() < BODY_OFFSET {
         return None;
     }
     let extent = read_head(bytes, place)?;
-    let block = body_at(&bytes[24..], place)?;
+    let block = body_at(&bytes[BODY_OFFSET..], place)?;
     Some(Standing { extent, block })
 }
 
@@ -56,7 +58,7 @@ struct Reading {
 }
 
 impl Reading {
-    ghost use Rattle.std.specs.Prelude.{◌≡◌, ◌<◌, ◌≤◌, length, IfOk, OnOk};
+    ghost use Rattle.std.specs.Prelude.{◌≡◌, ◌<◌, ◌≤◌, ℕ, length, IfOk, OnOk};
     ghost use Rattle.tk_block.specs.Blocks.{IsSmall, body_said};
     ghost use Rattle.tk_block.specs.declared.head.StaticHead.{StaticHead};
     ghost use Rattle.tk_append.specs.Opening.{Walk, begin, walked};
@@ -81,7 +83,7 @@ impl Reading {
         ensures { (w : Walk) → Knows self.now w → result ≡ may_be_read w found.now.extent
             (body_said found.now.block) }
     {
-        let room = 44 + found.block.key.len() + found.block.value.len();
+        let room = BLOCK_OVERHEAD + found.block.key.len() + found.block.value.len();
         room as u64 <= found.extent
             && found.block.kind != 3
             && is_in_turn(self.before, self.open_group, found.block)
@@ -89,9 +91,8 @@ impl Reading {
 
     /// One block more.
     fn add(&mut self, alloc: Global, place: u64, block: Block<'_>) -> Result<(), NoMemory>
-        ensures { (w : Walk) → Knows self.old w
-            → OnOk result
-            (Knows self.new (walked w (record { place = place; body = body_said block.entry }))) }
+        ensures { (w : Walk) (extent : ℕ) → Knows self.old w → OnOk result (Knows self.new
+            (walked w (record { place = place; extent = extent; body = body_said block.entry }))) }
     {
         self.begun.push(change_of(alloc, block)?)?;
         let number = block.number;

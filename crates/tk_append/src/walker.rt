@@ -2,14 +2,17 @@ ghost use Rattle.std.specs.Prelude.{◌≡◌, ◌≤◌, ◌<◌, ◌^◌, ◌+
 ghost use Rattle.std.specs.Str.{bytes_eq};
 ghost use Rattle.tk_model.specs.Hashes.{mix_of};
 ghost use Rattle.tk_block.specs.Blocks.{IsSmall, body_at, body_said, extent_of, room_of};
-ghost use Rattle.tk_block.specs.Layout.{link_of, Placed};
+ghost use Rattle.tk_block.specs.Layout.{Placed, link_of};
 ghost use Rattle.tk_append.specs.Opening.{Walk, is_in_its_shard, is_in_turn, is_padded, may_stand, walked};
 ghost use Rattle.tk_append.specs.Walked.{IsAt, MayFollow, Fails, NewestIn, HasNone, HasBlock, turn_in, live_head};
 
 use crate::keys::change_keys;
 use std::alloc::Global;
 use std::collections::HashSet;
-use tk_block::{Block, StaticHead, body_at, extent_of, read_head, u64_at};
+use tk_block::{
+    BLOCK_OVERHEAD, BODY_OFFSET, Block, LINK_OFFSET, StaticHead, body_at, extent_of, read_head,
+    u64_at,
+};
 use tk_model::{NoMemory, OpenError, ShardOf, bucket, mix, shard};
 
 /// The first block of a group that is not complete.
@@ -51,11 +54,11 @@ fn live_head(cleared: u64, head: u64) -> u64
 fn block_at(bytes: &[u8], place: u64) -> Option<FoundBlock<'_>>
     ensures { MatchOption result (HasNone place bytes.now) (HasBlock place bytes.now) }
 {
-    if bytes.len() < 24 {
+    if bytes.len() < BODY_OFFSET {
         return None;
     }
     let extent = read_head(bytes, place)?;
-    let block = body_at(&bytes[24..], place)?;
+    let block = body_at(&bytes[BODY_OFFSET..], place)?;
     Some(FoundBlock {
         extent,
         hash: mix(block.key),
@@ -70,7 +73,7 @@ fn is_padded(bytes: &[u8], extent: u64, block: Block<'_>) -> bool
     requires long { extent ≤ length bytes.now }
     ensures { result ≡ is_padded bytes.now extent (body_said block.entry) }
 {
-    let room = 44 + block.key.len() + block.value.len();
+    let room = BLOCK_OVERHEAD + block.key.len() + block.value.len();
     let padding = &bytes[room..extent as usize];
     padding == &[0; 8][..padding.len()]
 }
@@ -112,7 +115,7 @@ impl Walker {
     ghost use Rattle.tk_model.specs.Hashes.{mix_of};
     ghost use Rattle.tk_block.specs.Text.{base_of};
     ghost use Rattle.tk_block.specs.Blocks.{IsSmall, body_said};
-    ghost use Rattle.tk_block.specs.Layout.{Placed, link_of};
+    ghost use Rattle.tk_block.specs.Layout.{Placed, link_of, placed};
     ghost use Rattle.tk_append.specs.Chains.{HeadsAre};
     ghost use Rattle.tk_append.specs.Opening.{Walk, begin, may_stand, walked, opened_by};
     ghost use Rattle.tk_append.specs.Walked.{IsAt, MayFollow, Fails, HasBlock, NewestIn, IsOfKind, Passed, least_behind, as_open};
@@ -194,8 +197,8 @@ impl Walker {
         if !self.may_stand(head, shard, bytes, &found) {
             return Err(OpenError::BrokenAt(place));
         }
-        if u64_at(bytes, 16) != self.link(head.p, &found) {
-            return Err(OpenError::BrokenAt(place + 16));
+        if u64_at(bytes, LINK_OFFSET) != self.link(head.p, &found) {
+            return Err(OpenError::BrokenAt(place + LINK_OFFSET as u64));
         }
         Ok(found)
     }
@@ -208,7 +211,7 @@ impl Walker {
         ensures heads { (blocks : List Placed) → NewestIn p place self.old.heads.items
             self.old.cleared blocks → IsOfKind (body_said found.now.block)
             → (next : ℕ) → place < next → NewestIn p next self.new.heads.items self.new.cleared
-            (blocks ++ record { place = place; body = body_said found.now.block } ∷ []) }
+            (blocks ++ placed place (body_said found.now.block) ∷ []) }
         ensures keys { self.new.keys ≡ self.old.keys }
         ensures before { self.new.before ≡ self.old.before }
         ensures open_group { self.new.open_group ≡ self.old.open_group }
@@ -227,7 +230,7 @@ impl Walker {
             self.new.before }
         ensures open_group { (first : Option Placed) → self.old.open_group ≡ option_map as_open
             first → self.new.open_group ≡ option_map as_open
-            (opened_by first (record { place = place; body = body_said block.entry })) }
+            (opened_by first (placed place (body_said block.entry))) }
         ensures heads { self.new.heads.items ≡ self.old.heads.items }
         ensures cleared { self.new.cleared ≡ self.old.cleared }
         ensures keys { self.new.keys ≡ self.old.keys }
@@ -258,7 +261,7 @@ impl Walker {
             → IsOfKind (body_said found.now.block) → place < next
             → OnOk result
             (IsAt p next self.new
-            (walked w (record { place = place; body = body_said found.now.block }))) }
+            (walked w (placed place (body_said found.now.block)))) }
     {
         change_keys(alloc, &mut self.keys, found.block)?;
         self.turn_heads(p, place, found);

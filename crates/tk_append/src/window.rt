@@ -6,9 +6,10 @@ ghost use Rattle.tk_model.specs.declared.error.OpenError.TheVariants.{BrokenAt};
 ghost use Rattle.tk_disk.specs.Crash.{OnlyReads};
 ghost use Rattle.tk_append.specs.Read.{IsOutside, HasOpenCause};
 ghost use Rattle.tk_append.specs.Walked.{Shows, HoldsBlock};
+ghost use Rattle.tk_block.specs.Sizes.{closing_place};
 
 use std::alloc::Global;
-use tk_block::u64_at;
+use tk_block::{BODY_OFFSET, CLOSING_PLACE, EXTENT_OFFSET, u64_at};
 use tk_disk::{Disk, DiskError};
 use tk_model::{NoMemory, OpenError};
 
@@ -24,7 +25,7 @@ pub fn read_piece<D: Disk>(disk: &mut D, at: u64, into: &mut [u8]) -> Result<(),
     ensures outside { IfSome (D.image disk.old) (λ f. at + length into.old ≤ length f
         → IfErr result IsOutside) }
     ensures short { IfErr result (λ e. IsOutside e
-        ⊎ ((e ≡ BrokenAt 32) × (D.fault_count disk.new ≡ D.fault_count disk.old))) }
+        ⊎ ((e ≡ BrokenAt closing_place) × (D.fault_count disk.new ≡ D.fault_count disk.old))) }
     ensures unmet { IsErrOf result errors.NoMemory → ⊥ }
     ensures image { D.image disk.new ≡ D.image disk.old }
     ensures cause { HasOpenCause (D.fault_count disk.old) (D.fault_count disk.new) result }
@@ -33,7 +34,7 @@ pub fn read_piece<D: Disk>(disk: &mut D, at: u64, into: &mut [u8]) -> Result<(),
 {
     match disk.read_at(at, into) {
         Ok(got) if got == into.len() => Ok(()),
-        Ok(_) => Err(OpenError::BrokenAt(32)),
+        Ok(_) => Err(OpenError::BrokenAt(CLOSING_PLACE)),
         Err(DiskError::Fault) => Err(OpenError::Fault),
         Err(DiskError::NoMemory) => Err(OpenError::NoMemory),
     }
@@ -54,6 +55,7 @@ impl Window {
     ghost use Rattle.std.specs.Io.{StartsWith};
     ghost use Rattle.tk_model.specs.declared.error.OpenError.TheVariants.{BrokenAt};
     ghost use Rattle.tk_disk.specs.Crash.{OnlyReads};
+    ghost use Rattle.tk_block.specs.Sizes.{closing_place};
     ghost use Rattle.tk_append.specs.Read.{IsOutside, HasOpenCause};
     ghost use Rattle.tk_append.specs.Walked.{Shows, HoldsBlock};
     ghost use Rattle.tk_append.specs.Windows.{items, room};
@@ -116,7 +118,7 @@ impl Window {
         ensures outside { IfSome (D.image disk.old) (λ f. at + count ≤ length f
             → IfErr result IsOutside) }
         ensures short { IfErr result (λ e. IsOutside e
-            ⊎ ((e ≡ BrokenAt 32) × (D.fault_count disk.new ≡ D.fault_count disk.old))) }
+            ⊎ ((e ≡ BrokenAt closing_place) × (D.fault_count disk.new ≡ D.fault_count disk.old))) }
         ensures image { D.image disk.new ≡ D.image disk.old }
         ensures cause { HasOpenCause (D.fault_count disk.old) (D.fault_count disk.new) result }
         ensures still { OnlyReads D.may_leave D.moment D.left_since D.past D.left_with disk.old
@@ -147,7 +149,7 @@ impl Window {
         ensures outside { IfSome (D.image disk.old) (λ f. place + left ≤ length f
             → IfErr result IsOutside) }
         ensures short { IfErr result (λ e. IsOutside e
-            ⊎ ((e ≡ BrokenAt 32) × (D.fault_count disk.new ≡ D.fault_count disk.old))) }
+            ⊎ ((e ≡ BrokenAt closing_place) × (D.fault_count disk.new ≡ D.fault_count disk.old))) }
         ensures image { D.image disk.new ≡ D.image disk.old }
         ensures cause { HasOpenCause (D.fault_count disk.old) (D.fault_count disk.new) result }
         ensures still { OnlyReads D.may_leave D.moment D.left_since D.past D.left_with disk.old
@@ -182,12 +184,12 @@ impl Window {
         ensures still { OnlyReads D.may_leave D.moment D.left_since D.past D.left_with disk.old
             disk.new }
     {
-        self.fill(disk, place, 24, left)?;
+        self.fill(disk, place, BODY_OFFSET as u64, left)?;
         let bytes = self.as_slice();
-        if bytes.len() < 24 {
+        if bytes.len() < BODY_OFFSET {
             return Ok(());
         }
-        let extent = u64_at(bytes, 4);
+        let extent = u64_at(bytes, EXTENT_OFFSET);
         if extent > LONGEST {
             return Ok(());
         }

@@ -9,8 +9,8 @@ use Rattle.tk_model.specs.declared.record.Change.TheVariants.{Put, Drop, Clear}
 use Rattle.tk_block.specs.declared.block.Body.{Body}
 use Rattle.tk_block.specs.Number.{u64_in}
 use Rattle.tk_block.specs.Text.{is_extent, head_text, head_front, checked, head_at}
-use Rattle.tk_block.specs.Blocks.{IsSmall, key_of, value_of, body_of, body_text, block_text, body_at, extent_for, extent_of, room_of}
-use Rattle.tk_block.specs.Grammar.{FitsBody}
+use Rattle.tk_block.specs.Blocks.{block_with, IsSmall, key_of, value_of, body_of, body_text, block_text, body_at, extent_for, extent_of, room_of}
+use Rattle.tk_block.specs.Grammar.{FitsExtent, FitsBody}
 use Rattle.tk_block.proofs.Heads.{head_found, length-head_text}
 use Rattle.tk_block.proofs.Bodies.{joined_front}
 use Rattle.tk_block.proofs.Grammar.{heads}
@@ -30,29 +30,41 @@ extent_fits b fits =
 abbrev pub behind_body : (b : Body) (rest : List ℕ) → List ℕ
 behind_body b rest = replicate (extent_of b - room_of b) 0 ++ rest
 
-head_first : (b : Body) (place link : ℕ) (rest : List ℕ) → block_text b place link ++ rest ≡ head_text (extent_of b) place ++ (to_be_bytes w64 link ++ (body_text b place ++ behind_body b rest))
-unfolding block_text
-head_first b place link rest = simp append_assoc
+-- ---- a block of any extent, with any padding
+
+head_first : (b : Body) (place extent link : ℕ) (padding rest : List ℕ) → block_with b place extent link padding ++ rest ≡ head_text extent place ++ (to_be_bytes w64 link ++ (body_text b place ++ (padding ++ rest)))
+unfolding block_with
+head_first b place extent link padding rest = simp append_assoc
+
+pub any_head : (b : Body) (place extent link : ℕ) (padding rest : List ℕ) → FitsExtent extent → head_at (block_with b place extent link padding ++ rest) place ≡ Some extent
+any_head b place extent link padding rest fits =
+    ap (λ l. head_at l place) (head_first b place extent link padding rest) ∙ (heads place).again extent _ fits
+
+any_body_stands : (b : Body) (place extent link : ℕ) (padding rest : List ℕ) → drop 24 (block_with b place extent link padding ++ rest) ≡ (body_text b place ++ padding) ++ rest
+unfolding block_with head_text head_front checked
+any_body_stands b place extent link padding rest = refl
+
+pub any_body : (b : Body) (place extent link : ℕ) (padding rest : List ℕ) → FitsBody b → body_at (drop 24 (block_with b place extent link padding ++ rest)) place ≡ Some b
+any_body b place extent link padding rest fits =
+    ap (λ l. body_at l place) (any_body_stands b place extent link padding rest ∙ append_assoc (body_text b place) padding rest) ∙ (bodies place).again b _ fits
+
+-- ---- a block that was appended
 
 pub block_head : (b : Body) (place link : ℕ) (rest : List ℕ) → FitsBody b → head_at (block_text b place link ++ rest) place ≡ Some (extent_of b)
-block_head b place link rest fits =
-    ap (λ l. head_at l place) (head_first b place link rest) ∙ (heads place).again (extent_of b) _ (extent_fits b fits)
+unfolding block_text
+block_head b place link rest fits = any_head b place (extent_of b) link (replicate (extent_of b - room_of b) 0) rest (extent_fits b fits)
 
 link_stands : (b : Body) (place link : ℕ) (rest : List ℕ) → take 8 (drop 16 (block_text b place link ++ rest)) ≡ to_be_bytes w64 link
-unfolding block_text head_text head_front checked
+unfolding block_text block_with head_text head_front checked
 link_stands b place link rest = refl
 
 pub block_link : (b : Body) (place link : ℕ) (rest : List ℕ) → link < 2 ^ 64 → u64_in (block_text b place link ++ rest) 16 ≡ link
 unfolding u64_in
 block_link b place link rest fits = ap (λ l. from_be_bytes w64 l) (link_stands b place link rest) ∙ from_be_bytes-to_be_bytes_8 link fits
 
-body_stands : (b : Body) (place link : ℕ) (rest : List ℕ) → drop 24 (block_text b place link ++ rest) ≡ (body_text b place ++ replicate (extent_of b - room_of b) 0) ++ rest
-unfolding block_text head_text head_front checked
-body_stands b place link rest = refl
-
 pub block_body : (b : Body) (place link : ℕ) (rest : List ℕ) → FitsBody b → body_at (drop 24 (block_text b place link ++ rest)) place ≡ Some b
-block_body b place link rest fits =
-    ap (λ l. body_at l place) (body_stands b place link rest ∙ append_assoc (body_text b place) (replicate (extent_of b - room_of b) 0) rest) ∙ (bodies place).again b _ fits
+unfolding block_text
+block_body b place link rest fits = any_body b place (extent_of b) link (replicate (extent_of b - room_of b) 0) rest fits
 
 -- what stands before the padding
 abbrev unpadded : (b : Body) (place link : ℕ) → List ℕ
@@ -63,7 +75,7 @@ length-unpadded b place link =
     omega (arith, length-append (head_text (extent_of b) place ++ to_be_bytes w64 link) (body_text b place), length-append (head_text (extent_of b) place) (to_be_bytes w64 link), length-head_text (extent_of b) place, length-body_text b place)
 
 padding_last : (b : Body) (place link : ℕ) → block_text b place link ≡ unpadded b place link ++ replicate (extent_of b - room_of b) 0
-unfolding block_text
+unfolding block_text block_with
 padding_last b place link = refl
 
 -- the zero bytes up to the extent

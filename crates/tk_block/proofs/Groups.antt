@@ -6,8 +6,9 @@ use Rattle.std.proofs.lemmas.List.{drop_more, take-append-le, length-take}
 use Rattle.std.proofs.lemmas.Option.{get_or_from_slice_get, slice_get_within}
 use Rattle.tk_model.specs.declared.record.Change.{Change}
 use Rattle.tk_block.specs.declared.block.Body.{Body}
-use Rattle.tk_block.specs.Blocks.{body_of, is_nil, group_bodies, block_text, extent_of}
-use Rattle.tk_block.specs.Layout.{laid, end_of, texts}
+use Rattle.tk_block.specs.Blocks.{body_of, is_nil, group_bodies, extent_of}
+use Rattle.tk_block.specs.Layout.{laid, end_of}
+use Rattle.tk_block.specs.Renumber.{unchecked_text, unchecked_texts}
 
 -- blocks end behind where they begin
 pub end_behind : (place : ℕ) (bs : List Body) → place ≤ end_of place bs
@@ -25,11 +26,11 @@ pub item_here : {A : Type 0} (xs : List A) (i : ℕ) (x : A) → slice_get xs i 
 item_here xs i x is = drop_more xs i x (slice_get_within xs i x is) ∙ ap (λ y. y ∷ drop (i + 1) xs) (get_or_from_slice_get xs i x x is)
 
 -- the first change of what is left is written
-pub one_written : (number at : ℕ) (c : Change) (cs : List Change) (link : ℕ) (links out : List ℕ) → (out ++ block_text (body_of number c (is_nil cs)) at link) ++ texts (laid (at + extent_of (body_of number c (is_nil cs))) (group_bodies number cs)) links ≡ out ++ texts (laid at (group_bodies number (c ∷ cs))) (link ∷ links)
-one_written number at c cs link links out = append_assoc out (block_text (body_of number c (is_nil cs)) at link) _
+pub one_written : (number at : ℕ) (c : Change) (cs : List Change) (link : ℕ) (links out : List ℕ) → (out ++ unchecked_text (body_of number c (is_nil cs)) at link) ++ unchecked_texts (laid (at + extent_of (body_of number c (is_nil cs))) (group_bodies number cs)) links ≡ out ++ unchecked_texts (laid at (group_bodies number (c ∷ cs))) (link ∷ links)
+one_written number at c cs link links out = append_assoc out (unchecked_text (body_of number c (is_nil cs)) at link) _
 
 -- a block is written, and the text of the changes that are left goes on behind it
-pub goes_on : (number at e : ℕ) (b : Body) (c : Change) (cs rest : List Change) (link : ℕ) (links left out new : List ℕ) → cs ≡ c ∷ rest → links ≡ link ∷ left → b ≡ body_of number c (is_nil rest) → e ≡ extent_of b → new ≡ out ++ block_text b at link → new ++ texts (laid (at + e) (group_bodies number rest)) left ≡ out ++ texts (laid at (group_bodies number cs)) links
+pub goes_on : (number at e : ℕ) (b : Body) (c : Change) (cs rest : List Change) (link : ℕ) (links left out new : List ℕ) → cs ≡ c ∷ rest → links ≡ link ∷ left → b ≡ body_of number c (is_nil rest) → e ≡ extent_of b → new ≡ out ++ unchecked_text b at link → new ++ unchecked_texts (laid (at + e) (group_bodies number rest)) left ≡ out ++ unchecked_texts (laid at (group_bodies number cs)) links
 goes_on number at e b c cs rest link links left out new p q r s t = rw (p, q, s, t, r) (one_written number at c rest link left out)
 
 pub end_goes_on : (number at e : ℕ) (b : Body) (c : Change) (cs rest : List Change) → cs ≡ c ∷ rest → b ≡ body_of number c (is_nil rest) → e ≡ extent_of b → end_of (at + e) (group_bodies number rest) ≡ end_of at (group_bodies number cs)

@@ -5,7 +5,7 @@ use Rattle.tk_model.specs.declared.record.Change.{Change}
 use Rattle.tk_model.specs.declared.record.Group.{Group}
 use Rattle.tk_block.specs.declared.block.Body.{Body}
 use Rattle.tk_block.specs.Blocks.{extent_of, body_of, block_text, group_bodies, is_nil}
-use Rattle.tk_block.specs.Layout.{Placed, bucket_in, laid, end_of, renewed, newest, link_of, links_of, texts, first_or_none, bodies_of}
+use Rattle.tk_block.specs.Layout.{placed, Placed, bucket_in, laid, end_of, renewed, newest, link_of, links_of, texts, first_or_none, bodies_of}
 
 pub end_of-append : (place : ℕ) (xs ys : List Body) → end_of place (xs ++ ys) ≡ end_of (end_of place xs) ys
 end_of-append place [] ys = refl
@@ -13,7 +13,7 @@ end_of-append place (x ∷ xs) ys = end_of-append (place + extent_of x) xs ys
 
 pub laid-append : (place : ℕ) (xs ys : List Body) → laid place (xs ++ ys) ≡ laid place xs ++ laid (end_of place xs) ys
 laid-append place [] ys = refl
-laid-append place (x ∷ xs) ys = let here : Placed = record { place = place; body = x } in ap (λ l. here ∷ l) (laid-append (place + extent_of x) xs ys)
+laid-append place (x ∷ xs) ys = let here : Placed = placed place x in ap (λ l. here ∷ l) (laid-append (place + extent_of x) xs ys)
 
 pub length-laid : (place : ℕ) (xs : List Body) → length (laid place xs) ≡ length xs
 length-laid place [] = refl
@@ -65,11 +65,11 @@ end_of-renumbered place old new [] = refl
 end_of-renumbered place old new (c ∷ cs) = end_of-renumbered (place + extent_of (body_of new c (is_nil cs))) old new cs
 
 newest-step : (p bucket : ℕ) (before other : List Placed) (place old new : ℕ) (c : Change) (last : Bool) → newest p bucket 0 before ≡ newest p bucket 0 other
-    → newest p bucket 0 (before ++ record { place = place; body = body_of old c last } ∷ []) ≡ newest p bucket 0 (other ++ record { place = place; body = body_of new c last } ∷ [])
+    → newest p bucket 0 (before ++ placed place (body_of old c last) ∷ []) ≡ newest p bucket 0 (other ++ placed place (body_of new c last) ∷ [])
 newest-step p bucket before other place old new c last same =
-    newest-append p bucket 0 before (record { place = place; body = body_of old c last } ∷ [])
-    ∙ ap (λ (n : ℕ). renewed p bucket n (record { place = place; body = body_of old c last })) same
-    ∙ sym (newest-append p bucket 0 other (record { place = place; body = body_of new c last } ∷ []))
+    newest-append p bucket 0 before (placed place (body_of old c last) ∷ [])
+    ∙ ap (λ (n : ℕ). renewed p bucket n (placed place (body_of old c last))) same
+    ∙ sym (newest-append p bucket 0 other (placed place (body_of new c last) ∷ []))
 
 -- a group has the same links under each number
 pub links_of-renumbered : (p : ℕ) (before other : List Placed) (place old new : ℕ) (cs : List Change) → ((bucket : ℕ) → newest p bucket 0 before ≡ newest p bucket 0 other)
@@ -78,7 +78,7 @@ links_of-renumbered p before other place old new [] same = refl
 links_of-renumbered p before other place old new (c ∷ cs) same =
     let one = body_of old c (is_nil cs) in
     let two = body_of new c (is_nil cs) in
-    ap (λ (n : ℕ). cond (eqb one.kind 4) 0 n ∷ links_of p (before ++ record { place = place; body = one } ∷ []) (laid (place + extent_of one) (group_bodies old cs))) (same (bucket_in p one.key))
+    ap (λ (n : ℕ). cond (eqb one.kind 4) 0 n ∷ links_of p (before ++ placed place one ∷ []) (laid (place + extent_of one) (group_bodies old cs))) (same (bucket_in p one.key))
     ∙ ap (λ (l : List ℕ). link_of p other two ∷ l)
-    (links_of-renumbered p (before ++ record { place = place; body = one } ∷ []) (other ++ record { place = place; body = two } ∷ []) (place + extent_of one) old new cs
+    (links_of-renumbered p (before ++ placed place one ∷ []) (other ++ placed place two ∷ []) (place + extent_of one) old new cs
     (λ bucket. newest-step p bucket before other place old new c (is_nil cs) (same bucket)))

@@ -7,7 +7,7 @@ use Rattle.tk_block.specs.declared.block.Body.{Body}
 use Rattle.tk_block.specs.declared.head.StaticHead.{StaticHead}
 use Rattle.tk_block.specs.declared.closing.Closing.{Closing}
 use Rattle.tk_block.specs.Text.{head_text, static_text, closing_text, base_of}
-use Rattle.tk_block.specs.Blocks.{body_text, block_text, room_of, extent_for, extent_of}
+use Rattle.tk_block.specs.Blocks.{block_with, body_text, block_text, room_of, extent_for, extent_of}
 use Rattle.tk_block.specs.Layout.{Placed, laid, end_of, newest, links_of, texts, heads_below, heads_text, bodies_of, file_text, first_or_none}
 use Rattle.tk_block.proofs.Heads.{length-head_text}
 use Rattle.tk_block.proofs.Grammar.{length-static_text, length-closing_text}
@@ -16,10 +16,15 @@ use Rattle.tk_block.proofs.BodyGrammar.{length-body_text}
 pub room_fits : (room : ℕ) → room ≤ extent_for room
 room_fits room = omega arith
 
+pub length-block_with : (b : Body) (place extent link : ℕ) (padding : List ℕ) → length (block_with b place extent link padding) ≡ room_of b + length padding
+unfolding block_with
+length-block_with b place extent link padding =
+    omega (arith, length-append (head_text extent place ++ to_be_bytes w64 link ++ body_text b place) padding, length-append (head_text extent place ++ to_be_bytes w64 link) (body_text b place), length-append (head_text extent place) (to_be_bytes w64 link), length-head_text extent place, length-body_text b place)
+
 pub length-block_text : (b : Body) (place link : ℕ) → length (block_text b place link) ≡ extent_of b
 unfolding block_text
 length-block_text b place link =
-    omega (arith, length-append (head_text (extent_of b) place ++ to_be_bytes w64 link ++ body_text b place) (replicate (extent_of b - room_of b) 0), length-append (head_text (extent_of b) place ++ to_be_bytes w64 link) (body_text b place), length-append (head_text (extent_of b) place) (to_be_bytes w64 link), length-head_text (extent_of b) place, length-body_text b place, length-replicate {A = ℕ} (extent_of b - room_of b) 0, room_fits (room_of b))
+    omega (arith, length-block_with b place (extent_of b) link (replicate (extent_of b - room_of b) 0), length-replicate {A = ℕ} (extent_of b - room_of b) 0, room_fits (room_of b))
 
 -- blocks end where their text does
 pub length-texts : (place : ℕ) (bs : List Body) (links : List ℕ) → place + length (texts (laid place bs) links) ≡ end_of place bs

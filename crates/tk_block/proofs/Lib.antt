@@ -6,6 +6,7 @@ pub mod Checks
 pub mod Grammar
 pub mod Groups
 pub mod Heads
+pub mod Laid
 pub mod Layouts
 pub mod Lengths
 pub mod NewNumber

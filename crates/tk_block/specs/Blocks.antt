@@ -38,9 +38,12 @@ abbrev pub extent_of : Body → ℕ
 extent_of b = extent_for (room_of b)
 
 -- head, link, body and padding
+unfoldable pub block_with : (b : Body) (place extent link : ℕ) (padding : List ℕ) → List ℕ
+block_with b place extent link padding = head_text extent place ++ to_be_bytes w64 link ++ body_text b place ++ padding
+
+-- a block as it is appended: of the least extent, with zero bytes behind its body
 unfoldable pub block_text : (b : Body) (place link : ℕ) → List ℕ
-block_text b place link =
-    head_text (extent_of b) place ++ to_be_bytes w64 link ++ body_text b place ++ replicate (extent_of b - room_of b) 0
+block_text b place link = block_with b place (extent_of b) link (replicate (extent_of b - room_of b) 0)
 
 -- the body that a block says
 abbrev pub body_said : Block → Body

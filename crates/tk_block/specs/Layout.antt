@@ -9,15 +9,20 @@ use Rattle.tk_block.specs.declared.head.StaticHead.{StaticHead}
 use Rattle.tk_block.specs.declared.closing.Closing.{Closing}
 use Rattle.tk_block.specs.declared.block.Body.{Body}
 
--- a block and where it stands
+-- a block: where it stands, how many bytes it has, and its body
 pub record Placed : Type 0 where
   pub place : ℕ
+  pub extent : ℕ
   pub body : Body
 
--- blocks that follow one another from a place on
+-- a block as it is appended: of the least extent that fits
+abbrev pub placed : (place : ℕ) → Body → Placed
+placed place b = record { place = place; extent = extent_of b; body = b }
+
+-- appended blocks that follow one another from a place on
 abbrev pub laid : (place : ℕ) → List Body → List Placed
 laid place [] = []
-laid place (b ∷ bs) = record { place = place; body = b } ∷ laid (place + extent_of b) bs
+laid place (b ∷ bs) = placed place b ∷ laid (place + extent_of b) bs
 
 -- where they end
 abbrev pub end_of : (place : ℕ) → List Body → ℕ
@@ -54,7 +59,7 @@ abbrev pub first_or_none : List ℕ → ℕ
 first_or_none [] = 0
 first_or_none (x ∷ xs) = x
 
--- the text of blocks with these links
+-- the text of appended blocks with these links
 abbrev pub texts : List Placed → (links : List ℕ) → List ℕ
 texts [] links = []
 texts (x ∷ xs) links = block_text x.body x.place (first_or_none links) ++ texts xs (drop 1 links)

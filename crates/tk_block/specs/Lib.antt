@@ -1,5 +1,6 @@
 pub mod Blocks
 pub mod Grammar
+pub mod Laid
 pub mod Layout
 pub mod Number
 pub mod Renumber

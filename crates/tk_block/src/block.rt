@@ -4,6 +4,7 @@ ghost use Rattle.std.specs.Str.{bytes_eq};
 ghost use Rattle.tk_block.specs.Sizes.{check_size, block_overhead};
 ghost use Rattle.tk_block.specs.Text.{check_number};
 ghost use Rattle.tk_block.specs.Grammar.{Reads, FitsBody};
+ghost use Rattle.tk_block.specs.Renumber.{unchecked_text};
 ghost use Rattle.tk_block.specs.Blocks.{IsSmall, flag, numbers_text, body_front, body_text, block_text, room_of, extent_for, extent_of, body_said, is_nil, is_body, body_at, body_in, check_in};
 
 use crate::head::write_head;
@@ -94,7 +95,7 @@ fn put_body(block: Block<'_>, place: u64, out: &mut Bytes) -> Result<(), NoMemor
 }
 
 /// Puts the block's text for a place at the end.
-#[tactic(auto, unfolding(crate::specs::Blocks::block_text))]
+#[tactic(auto, unfolding(crate::specs::Blocks::block_text, crate::specs::Blocks::block_with))]
 pub fn write_block(block: Block<'_>, place: u64, link: u64, out: &mut Bytes) -> Result<(), NoMemory>
     requires { IsSmall block.key.now block.value.now }
     ensures ok { OnOk result (out.new ≡ out.old ++ block_text (body_said block.entry) place link) }
@@ -106,6 +107,27 @@ pub fn write_block(block: Block<'_>, place: u64, link: u64, out: &mut Bytes) -> 
     out.extend(&link.to_be_bytes())?;
     put_body(block, place, out)?;
     out.extend_zeros(extent as usize - room)
+}
+
+/// Puts the block's text for a place at the end, with zero bytes where its check will stand.
+#[tactic(auto, unfolding(crate::specs::Renumber::unchecked_text))]
+pub(crate) fn write_unchecked(
+    block: Block<'_>,
+    place: u64,
+    link: u64,
+    out: &mut Bytes,
+) -> Result<(), NoMemory>
+    requires { IsSmall block.key.now block.value.now }
+    ensures ok { OnOk result (out.new ≡ out.old
+        ++ unchecked_text (body_said block.entry) place link) }
+    ensures err { OnErr result (StartsWith out.new out.old) }
+{
+    let room = BLOCK_OVERHEAD + block.key.len() + block.value.len();
+    let extent = extent_of(block.key.len(), block.value.len());
+    out.extend(&write_head(extent, place))?;
+    out.extend(&link.to_be_bytes())?;
+    put_front(block, out)?;
+    out.extend_zeros(CHECK_SIZE + (extent as usize - room))
 }
 
 fn is_body(block: Block<'_>) -> bool

@@ -1,15 +1,15 @@
 ghost use Rattle.std.specs.Prelude.{◌≡◌, ◌≤◌, ◌<◌, ◌^◌, ◌+◌, ◌++◌, length, OnOk, OnErr};
 ghost use Rattle.std.specs.Io.{StartsWith};
 ghost use Rattle.tk_block.specs.Blocks.{AllSmall, group_bodies, kind_of, key_of, value_of};
-ghost use Rattle.tk_block.specs.Layout.{group_text, laid, end_of, texts};
-ghost use Rattle.tk_block.specs.Renumber.{IsGroupText, Renumbered, IsBlockIn, RenumberedBlock};
+ghost use Rattle.tk_block.specs.Layout.{laid, end_of};
+ghost use Rattle.tk_block.specs.Renumber.{unchecked_texts, IsGroupText, Renumbered, IsBlockIn, RenumberedBlock};
 
-use crate::block::{Block, check, extent_of, write_block};
+use crate::block::{Block, check, extent_of, write_unchecked};
 use crate::number::{u16_at, u32_at, u64_at};
 use crate::sizes::{
     BODY_OFFSET, EXTENT_OFFSET, KEY_LEN_OFFSET, KEY_OFFSET, NUMBER_OFFSET, VALUE_LEN_OFFSET,
 };
-use tk_model::{Bytes, Change, ChangeList, Group, ListOf, NoMemory};
+use tk_model::{Bytes, Change, ChangeList, ListOf, NoMemory};
 
 /// A place for each change: that of the block before it in its bucket's chain, or 0.
 pub type LinkList = ListOf<u64>;
@@ -36,9 +36,8 @@ fn block_of(change: &Change, number: u64, last: bool) -> Block<'_>
     }
 }
 
-/// Puts the text of a group of these changes, for a place, at the end.
-pub fn write_changes(
-    number: u64,
+/// Puts the text of a group of these changes, for a place, at the end. It waits for its number and has no checks.
+pub fn write_unnumbered(
     changes: &ChangeList,
     place: u64,
     links: &LinkList,
@@ -46,33 +45,22 @@ pub fn write_changes(
 ) -> Result<(), NoMemory>
     requires small { AllSmall changes.now }
     requires links { length links.now ≡ length changes.now }
-    requires end { end_of place (group_bodies number changes.now) ≤ 2 ^ 40 }
-    ensures ok { OnOk result (out.new ≡ out.old ++ texts
-        (laid place (group_bodies number changes.now)) links.now) }
+    requires end { end_of place (group_bodies 0 changes.now) ≤ 2 ^ 40 }
+    ensures ok { OnOk result (out.new ≡ out.old ++ unchecked_texts
+        (laid place (group_bodies 0 changes.now)) links.now) }
     ensures err { OnErr result (StartsWith out.new out.old) }
 {
     let count = changes.len();
     let mut at = place;
     for (i, change) in changes.as_slice().iter().enumerate() {
-        let block = block_of(change, number, i + 1 == count);
-        write_block(block, at, *links.at(i), out)?;
+        let block = block_of(change, 0, i + 1 == count);
+        write_unchecked(block, at, *links.at(i), out)?;
         at += extent_of(block.key.len(), block.value.len());
     }
     Ok(())
 }
 
-/// Puts the group's text for a place at the end.
-pub fn write_group(g: &Group, place: u64, links: &LinkList, out: &mut Bytes) -> Result<(), NoMemory>
-    requires small { AllSmall g.now.changes }
-    requires links { length links.now ≡ length g.now.changes }
-    requires end { end_of place (group_bodies g.now.number g.now.changes) ≤ 2 ^ 40 }
-    ensures ok { OnOk result (out.new ≡ out.old ++ group_text g.now place links.now) }
-    ensures err { OnErr result (StartsWith out.new out.old) }
-{
-    write_changes(g.number, &g.changes, place, links, out)
-}
-
-/// Renumbers the block at an index, and gives its length.
+/// Gives the block at an index its number and its check, and answers its length.
 fn renumber_block(text: &mut Bytes, at: usize, place: u64, number: u64) -> usize
     requires { IsBlockIn text.old at place }
     ensures block { RenumberedBlock text.old text.new at place number result }
@@ -88,7 +76,7 @@ fn renumber_block(text: &mut Bytes, at: usize, place: u64, number: u64) -> usize
     extent
 }
 
-/// Gives a group's text for a place another number.
+/// Gives a group's text for a place its number and its checks.
 pub fn renumber(text: &mut Bytes, place: u64, number: u64)
     requires { IsGroupText text.old place }
     ensures { Renumbered text.old text.new place number }

@@ -5,7 +5,7 @@ ghost use Rattle.tk_block.specs.Layout.{end_of};
 use super::*;
 use std::alloc::Global;
 use std::test::Fail;
-use tk_model::{Bytes, Change, Group, ListOf, NoMemory, Pair};
+use tk_model::{Bytes, Change, ChangeList, ListOf, NoMemory, Pair};
 
 // A file of one record, `a` with the value `1`: header, closing part and block, by another program.
 static HEADER: &[u8] =
@@ -63,27 +63,32 @@ fn a_block_is_read(rt: HostRuntime) -> Result<(), Fail> {
     Ok(())
 }
 
-fn one_put(alloc: Global) -> Result<Group, NoMemory>
-    ensures small { IfOk result (λ g. AllSmall g.changes) }
-    ensures one { IfOk result (λ g. length g.changes ≡ 1) }
-    ensures end { IfOk result (λ g. end_of 8256 (group_bodies g.number g.changes) ≤ 2 ^ 40) }
+fn one_put(alloc: Global) -> Result<ChangeList, NoMemory>
+    ensures small { IfOk result AllSmall }
+    ensures one { IfOk result (λ changes. length changes ≡ 1) }
+    ensures end { IfOk result (λ changes. end_of 8256 (group_bodies 0 changes) ≤ 2 ^ 40) }
 {
     let key = Bytes::from_slice(alloc, b"a")?;
     let value = Bytes::from_slice(alloc, b"1")?;
     let mut changes = ListOf::new(alloc);
     changes.push(Change::Put(Pair { key, value }))?;
-    Ok(Group { number: 0, changes })
+    Ok(changes)
+}
+
+/// The text of the group under a number.
+fn group_of(alloc: Global, number: u64) -> Result<Bytes, NoMemory> {
+    let changes = one_put(alloc)?;
+    let mut links = ListOf::new(alloc);
+    links.push(0)?;
+    let mut text = Bytes::new(alloc);
+    write_unnumbered(&changes, 8256, &links, &mut text)?;
+    renumber(&mut text, 8256, number);
+    Ok(text)
 }
 
 #[test]
 fn a_group_is_written(rt: HostRuntime) -> Result<(), Fail> {
-    let group = one_put(rt.alloc())?;
-    let mut links = ListOf::new(rt.alloc());
-    links.push(0)?;
-    let mut text = Bytes::new(rt.alloc());
-    write_group(&group, 8256, &links, &mut text)?;
-    assert_eq!(rt; text.as_slice(), BLOCK);
-    renumber(&mut text, 8256, 7);
-    assert_eq!(rt; text.as_slice(), BLOCK_OF_7);
+    assert_eq!(rt; group_of(rt.alloc(), 0)?.as_slice(), BLOCK);
+    assert_eq!(rt; group_of(rt.alloc(), 7)?.as_slice(), BLOCK_OF_7);
     Ok(())
 }

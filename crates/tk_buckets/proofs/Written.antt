@@ -9,7 +9,7 @@ use Rattle.tk_block.specs.Number.{u64_in}
 use Rattle.tk_block.specs.Text.{head_at, base_of}
 use Rattle.tk_block.specs.Blocks.{body_at, block_text, extent_of, room_of}
 use Rattle.tk_block.specs.Grammar.{FitsBody}
-use Rattle.tk_block.specs.Layout.{Placed, bucket_in, is_in, laid, newest, link_of, links_of, texts}
+use Rattle.tk_block.specs.Layout.{placed, Placed, bucket_in, is_in, laid, newest, link_of, links_of, texts}
 use Rattle.tk_block.specs.declared.block.Body.{Body}
 use Rattle.tk_block.specs.declared.head.StaticHead.{StaticHead}
 use Rattle.tk_block.proofs.BlockReads.{block_head, block_link, block_body}
@@ -48,8 +48,8 @@ module _ (h : StaticHead) (f : List ℕ) (place : ℕ) (b : Body) (link : ℕ) (
     within = omega (arith, written_extent, ap length is, length-drop place f, length-append (block_text b place link) rest, length-block_text b place link);
   }
 
-  pub written_stands : base_of h.p ≤ place → StandsAt h f (record { place = place; body = b })
-  written_stands behind = record { whole = written_whole behind; says = written_says }
+  pub written_stands : base_of h.p ≤ place → StandsAt h f (placed place b)
+  written_stands behind = record { whole = written_whole behind; extent = written_extent; says = written_says }
 
 stand_by_kind : (h : StaticHead) (f : List ℕ) (clear ours : Bool) (x : Placed) (found : List Placed) → StandsAt h f x → AllStand h f found → AllStand h f (cond clear [] (cond ours (x ∷ found) found))
 stand_by_kind h f true ours x found here all = tt
@@ -61,7 +61,7 @@ stand_written : (h : StaticHead) (f : List ℕ) (bucket : ℕ) (before : List Pl
     → drop at f ≡ texts (laid at bodies) (links_of h.p before (laid at bodies)) → AllStand h f found → AllStand h f (bucket_blocks h.p bucket found (laid at bodies))
 stand_written h f bucket before [] at found behind fit is all = all
 stand_written h f bucket before (b ∷ bs) at found behind fit is all =
-    let x : Placed = record { place = at; body = b } in
+    let x : Placed = placed at b in
     let e = extent_of b in
     let link = link_of h.p before b in
     let rest = texts (laid (at + e) bs) (links_of h.p (before ++ x ∷ []) (laid (at + e) bs)) in
@@ -116,7 +116,7 @@ chain_written h f bucket before [] at found size behind fit is linked ended =
     subst (λ (l : List Placed). IsLinked h f (newest h.p bucket 0 l) (places_in found)) (sym (append-nil before)) linked
 chain_written h f bucket before (b ∷ bs) at found size behind fit is linked ended =
     let p = h.p in
-    let x : Placed = record { place = at; body = b } in
+    let x : Placed = placed at b in
     let e = extent_of b in
     let link = link_of p before b in
     let n = newest p bucket 0 before in

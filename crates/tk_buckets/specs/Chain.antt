@@ -1,6 +1,7 @@
 -- A bucket as the list of the places of its blocks, the first of its chain first.
 use Rattle.std.specs.Prelude.{◌≡◌, ◌⊎◌, ℕ, ◌+◌, ◌*◌, ◌^◌, ◌<◌, ◌≤◌, List, [], ◌∷◌, length, drop, Bool, true, Option, Some, IfSome, if◌then◌else◌, ◌==◌}
 use Rattle.std.specs.List.{list_any}
+use Rattle.tk_block.specs.Sizes.{heads_place, cell_size, extent_offset, link_offset, body_offset}
 use Rattle.tk_block.specs.Number.{u64_in}
 use Rattle.tk_block.specs.Text.{head_at, base_of}
 use Rattle.tk_block.specs.Blocks.{body_at, room_of}
@@ -11,22 +12,22 @@ use Rattle.tk_block.specs.declared.head.StaticHead.{StaticHead}
 
 -- where a bucket's head stands
 abbrev pub head_cell : (bucket : ℕ) → ℕ
-head_cell bucket = 64 + 8 * bucket
+head_cell bucket = heads_place + cell_size * bucket
 
 -- the extent that the block at a place says
 abbrev pub extent_in : List ℕ → (place : ℕ) → ℕ
-extent_in f place = u64_in f (place + 4)
+extent_in f place = u64_in f (place + extent_offset)
 
 -- its link
 abbrev pub link_in : List ℕ → (place : ℕ) → ℕ
-link_in f place = u64_in f (place + 16)
+link_in f place = u64_in f (place + link_offset)
 
 -- a block stands whole at the place, behind the heads
 pub record IsWhole (h : StaticHead) (f : List ℕ) (place : ℕ) : Type 0 where
   pub body : Body
   pub behind : base_of h.p ≤ place
   pub head : head_at (drop place f) place ≡ Some (extent_in f place)
-  pub says : body_at (drop (place + 24) f) place ≡ Some body
+  pub says : body_at (drop (place + body_offset) f) place ≡ Some body
   pub room : room_of body ≤ extent_in f place
   pub within : place + extent_in f place ≤ length f
 
@@ -72,7 +73,7 @@ has_block place places = list_any (λ (q : ℕ). q == place) places
 -- the cell that leads to a block of a chain that begins at a cell
 abbrev pub cell_to : (cell place : ℕ) → List ℕ → ℕ
 cell_to cell place [] = cell
-cell_to cell place (q ∷ qs) = if q == place then cell else cell_to (q + 16) place qs
+cell_to cell place (q ∷ qs) = if q == place then cell else cell_to (q + link_offset) place qs
 
 -- the chain without the block
 abbrev pub without : (place : ℕ) → List ℕ → List ℕ

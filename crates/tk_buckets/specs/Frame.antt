@@ -1,6 +1,7 @@
 -- What a write of n bytes leaves of chains, whole or torn.
 use Rattle.std.specs.Prelude.{◌≡◌, ◌⊎◌, ℕ, ◌+◌, ◌^◌, ◌<◌, ◌≤◌, List, [], ◌∷◌, length, drop, true, false, Some}
 use Rattle.tk_disk.specs.Crash.{Torn}
+use Rattle.tk_block.specs.Sizes.{link_offset, body_offset}
 use Rattle.tk_block.specs.Text.{base_of}
 use Rattle.tk_block.specs.Blocks.{body_at, room_of}
 use Rattle.tk_block.specs.declared.block.Body.{Body}
@@ -25,16 +26,16 @@ NoneAmong (q ∷ qs) places = (has_block q places ≡ false) × NoneAmong qs pla
 -- a body fits the block at a place
 pub record HasBody (f : List ℕ) (place extent : ℕ) : Type 0 where
   pub body : Body
-  pub says : body_at (drop (place + 24) f) place ≡ Some body
+  pub says : body_at (drop (place + body_offset) f) place ≡ Some body
   pub room : room_of body ≤ extent
 
 pub record WritesLeaveChains (h : StaticHead) : Type 0 where
   -- a block that is overwritten behind its head, with a body that fits, stands whole
-  pub block : (f g : List ℕ) (at n place : ℕ) → IsWhole h f place → place + 16 ≤ at → Torn at n f g
+  pub block : (f g : List ℕ) (at n place : ℕ) → IsWhole h f place → place + link_offset ≤ at → Torn at n f g
       → HasBody g place (extent_in f place) → IsWhole h g place
   -- one that is overwritten behind its link stays where it is in its chain
   pub inside : (f g : List ℕ) (at n bucket place : ℕ) (places : List ℕ) → bucket < 2 ^ h.p → IsChain h f bucket places
-      → has_block place places ≡ true → place + 24 ≤ at → at + n ≤ place + extent_in f place → Torn at n f g
+      → has_block place places ≡ true → place + body_offset ≤ at → at + n ≤ place + extent_in f place → Torn at n f g
       → HasBody g place (extent_in f place) → IsChain h g bucket places
   -- a chain of other blocks stays, whatever is written in the block
   pub elsewhere : (f g : List ℕ) (at n bucket place : ℕ) (places : List ℕ) → bucket < 2 ^ h.p → IsChain h f bucket places
@@ -48,4 +49,4 @@ pub record WritesLeaveChains (h : StaticHead) : Type 0 where
       → NoneAmong places rest → AreApart f places rest
   -- the cell that leads to a block is the head, or the link of a block of the chain
   pub cell : (cell place : ℕ) (places : List ℕ)
-      → (cell_to cell place places ≡ cell) ⊎ ((q : ℕ) × (has_block q places ≡ true) × (cell_to cell place places ≡ q + 16))
+      → (cell_to cell place places ≡ cell) ⊎ ((q : ℕ) × (has_block q places ≡ true) × (cell_to cell place places ≡ q + link_offset))

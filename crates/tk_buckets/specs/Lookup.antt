@@ -1,6 +1,7 @@
 -- What a look-up along a chain finds, and what it reads.
 use Rattle.std.specs.Prelude.{◌≡◌, ℕ, ◌+◌, ◌-◌, ◌≤◌, min, max, Bool, false, List, [], ◌∷◌, length, take, drop, Option, Some, None, if◌then◌else◌, ◌==◌, ◌&&◌}
 use Rattle.tk_model.specs.Orders.{same_bytes}
+use Rattle.tk_block.specs.Sizes.{body_offset, key_offset, check_size, least_extent}
 use Rattle.tk_block.specs.Blocks.{body_at, room_of}
 use Rattle.tk_block.specs.Layout.{Placed}
 use Rattle.tk_block.specs.declared.block.Body.{Body}
@@ -10,11 +11,12 @@ use Rattle.tk_buckets.specs.declared.lookup.FoundBlock.{FoundBlock}
 
 -- the body of the block at a place
 abbrev pub body_in_block : List ℕ → (place : ℕ) → Option Body
-body_in_block f place = body_at (drop (place + 24) f) place
+body_in_block f place = body_at (drop (place + body_offset) f) place
 
--- a block stands whole at its place, with its body
+-- a block stands whole at its place, with its extent and its body
 pub record StandsAt (h : StaticHead) (f : List ℕ) (x : Placed) : Type 0 where
   pub whole : IsWhole h f x.place
+  pub extent : extent_in f x.place ≡ x.extent
   pub says : body_in_block f x.place ≡ Some x.body
 
 -- each of these blocks does
@@ -38,8 +40,8 @@ may_have key b = (length b.key == length key) && same_bytes (take (min (length k
 
 -- what is read of a block: 48 bytes; of one that may have the key, as far as its value ends or there is room for
 abbrev pub read_of_block : (key : List ℕ) → (room : ℕ) → Option Body → ℕ
-read_of_block key room None = 48
-read_of_block key room (Some b) = if may_have key b then max 48 (min (room_of b - 4) room) else 48
+read_of_block key room None = least_extent
+read_of_block key room (Some b) = if may_have key b then max least_extent (min (room_of b - check_size) room) else least_extent
 
 -- the same of the blocks at these places, up to the first that has the key
 abbrev pub read_of_chain : List ℕ → (key : List ℕ) → (room : ℕ) → List ℕ → ℕ
@@ -56,7 +58,7 @@ pub record IsBlockOf (f key buffer : List ℕ) (x : FoundBlock) : Type 0 where
   pub extent : x.extent ≡ extent_in f x.place
   pub kind : x.kind ≡ body.kind
   pub value_len : x.value_len ≡ length body.value
-  pub value : (n : ℕ) → n ≤ length body.value → 40 + length key + n ≤ length buffer → take n (drop (40 + length key) buffer) ≡ take n body.value
+  pub value : (n : ℕ) → n ≤ length body.value → key_offset + length key + n ≤ length buffer → take n (drop (key_offset + length key) buffer) ≡ take n body.value
 
 -- what a look-up along these places answers
 abbrev pub Finds : (f key : List ℕ) → List ℕ → (buffer : List ℕ) → Option FoundBlock → Type 0

@@ -4,13 +4,14 @@ ghost use Rattle.std.specs.Int.{w64, to_be_bytes};
 ghost use Rattle.tk_disk.specs.Crash.{Torn, Follows, Elapses, OnlyReads, LeavesOnly, PastOnly};
 ghost use Rattle.tk_disk.specs.Past.{with_write, Writes};
 ghost use Rattle.tk_disk.specs.Disk.{put_at, HasCause};
+ghost use Rattle.tk_block.specs.Sizes.{cell_size, least_extent};
 ghost use Rattle.tk_block.specs.Number.{u64_in};
 ghost use Rattle.tk_block.specs.Text.{base_of};
 ghost use Rattle.tk_block.specs.declared.head.StaticHead.{StaticHead};
 ghost use Rattle.tk_buckets.specs.Chain.{IsChain, IsLinked, IsNext, AreApart, IfInChain, head_cell, link_in, has_block, cell_to, without};
 
 use crate::read::number_at;
-use tk_block::StaticHead;
+use tk_block::{CELL_SIZE, HEADS_PLACE, LEAST_EXTENT, LINK_OFFSET, StaticHead};
 use tk_disk::{Disk, DiskError};
 
 /// Makes a block, whose link was written with it, the first of its bucket.
@@ -38,10 +39,10 @@ pub fn insert<D: Disk>(
     ensures taken { D.taken_count disk.new ≡ D.taken_count disk.old }
     ensures cause { HasCause (D.fault_count disk.old) (D.fault_count disk.new) result }
     // a crash: the head's eight bytes are all that is written
-    ensures crash { Follows (Torn (head_cell bucket) 8) (D.may_leave disk.old)
+    ensures crash { Follows (Torn (head_cell bucket) cell_size) (D.may_leave disk.old)
         (D.may_leave disk.new) }
     ensures time { LeavesOnly D.moment D.left_since disk.old disk.new
-        (λ c. (d : List ℕ) × D.may_leave disk.old d × Torn (head_cell bucket) 8 d c) }
+        (λ c. (d : List ℕ) × D.may_leave disk.old d × Torn (head_cell bucket) cell_size d c) }
     ensures past { Writes (head_cell bucket) (to_be_bytes w64 place)
         (D.past disk.old) (D.past disk.new) }
     ensures told_past { IfSome (D.image disk.old) (λ _. OnOk result (D.past disk.new
@@ -52,15 +53,16 @@ pub fn insert<D: Disk>(
         (D.left_with disk.old) (D.left_with disk.new)
         (λ x. (x.0 ≡ D.past disk.new) × D.may_leave disk.new x.1) }
 {
-    disk.write_at(64 + 8 * bucket, &place.to_be_bytes())
+    disk.write_at(HEADS_PLACE + CELL_SIZE * bucket, &place.to_be_bytes())
 }
 
 /// The cell, where it was found and a file may reach so far.
 fn found_cell(found: bool, cell: u64) -> Option<u64>
-    ensures value { result ≡ if found && nat_le cell (2 ^ 40 - 8) then Some cell else None }
-    ensures fits { IfSome result (λ c. c + 8 ≤ 2 ^ 40) }
+    ensures value { result ≡ if found && nat_le cell (2 ^ 40 - cell_size) then Some cell
+        else None }
+    ensures fits { IfSome result (λ c. c + cell_size ≤ 2 ^ 40) }
 {
-    if found && cell <= (1 << 40) - 8 {
+    if found && cell <= (1 << 40) - CELL_SIZE {
         Some(cell)
     } else {
         None
@@ -72,13 +74,15 @@ fn cell_of<D: Disk>(disk: &mut D, cell: u64, place: u64, len: u64) -> Result<Opt
     requires len { IfSome (D.image disk.old) (λ f. length f ≡ len) }
     requires size { IfSome (D.image disk.old) (λ f. length f ≤ 2 ^ 40) }
     ensures found { (h : StaticHead) (places : List ℕ) → IfSome (D.image disk.old) (λ f.
-        cell + 8 ≤ length f → IsLinked h f (u64_in f cell) places → has_block place places ≡ true
-        → IfOk result (λ c. c ≡ Some (cell_to cell place places))) }
-    ensures fits { IfOk result (λ c. IfSome c (λ n. n + 8 ≤ 2 ^ 40)) }
+        cell + cell_size ≤ length f → IsLinked h f (u64_in f cell) places
+        → has_block place places ≡ true → IfOk result (λ c. c ≡ Some (cell_to cell place places))) }
+    ensures fits { IfOk result (λ c. IfSome c (λ n. n + cell_size ≤ 2 ^ 40)) }
     ensures cost { (h : StaticHead) (places : List ℕ) → IfSome (D.image disk.old) (λ f.
-        cell + 8 ≤ length f → IsLinked h f (u64_in f cell) places → has_block place places ≡ true
-        → D.taken_count disk.new ≤ D.taken_count disk.old + 8 * length places) }
-    ensures bound { D.taken_count disk.new ≤ D.taken_count disk.old + 8 + 8 * (len / 48) }
+        cell + cell_size ≤ length f → IsLinked h f (u64_in f cell) places
+        → has_block place places ≡ true → D.taken_count disk.new
+        ≤ D.taken_count disk.old + cell_size * length places) }
+    ensures bound { D.taken_count disk.new
+        ≤ D.taken_count disk.old + cell_size + cell_size * (len / least_extent) }
     ensures image { D.image disk.new ≡ D.image disk.old }
     ensures more { D.taken_count disk.old ≤ D.taken_count disk.new }
     ensures cause { HasCause (D.fault_count disk.old) (D.fault_count disk.new) result }
@@ -88,8 +92,8 @@ fn cell_of<D: Disk>(disk: &mut D, cell: u64, place: u64, len: u64) -> Result<Opt
     let mut at = cell;
     let mut next = number_at(disk, cell)?;
     let mut steps = 0;
-    while next != place && steps < len / 48 {
-        at = next.saturating_add(16);
+    while next != place && steps < len / LEAST_EXTENT {
+        at = next.saturating_add(LINK_OFFSET as u64);
         next = number_at(disk, at)?;
         steps += 1;
     }
@@ -122,19 +126,21 @@ pub fn unlink<D: Disk>(
     ensures told { is_some (D.image disk.new) ≡ is_some (D.image disk.old) }
     // what was read: the head and links, no more than the file can have
     ensures cost { IfInChain (D.image disk.old) head.now bucket place (λ _ places.
-        D.taken_count disk.new ≤ D.taken_count disk.old + 8 + 8 * length places) }
+        D.taken_count disk.new
+        ≤ D.taken_count disk.old + cell_size + cell_size * length places) }
     ensures bound { IfSome (D.image disk.old) (λ f.
-        D.taken_count disk.new ≤ D.taken_count disk.old + 16 + 8 * (length f / 48)) }
+        D.taken_count disk.new
+        ≤ D.taken_count disk.old + 2 * cell_size + cell_size * (length f / least_extent)) }
     ensures more { D.taken_count disk.old ≤ D.taken_count disk.new }
     ensures cause { HasCause (D.fault_count disk.old) (D.fault_count disk.new) result }
     // a crash: the eight bytes of the cell are all that is written
     ensures crash { IfInChain (D.image disk.old) head.now bucket place (λ _ places.
-        Follows (Torn (cell_to (head_cell bucket) place places) 8)
+        Follows (Torn (cell_to (head_cell bucket) place places) cell_size)
         (D.may_leave disk.old) (D.may_leave disk.new)) }
     ensures time { IfInChain (D.image disk.old) head.now bucket place (λ _ places.
         LeavesOnly D.moment D.left_since disk.old disk.new
         (λ c. (d : List ℕ) × D.may_leave disk.old d
-        × Torn (cell_to (head_cell bucket) place places) 8 d c)) }
+        × Torn (cell_to (head_cell bucket) place places) cell_size d c)) }
     ensures past { IfInChain (D.image disk.old) head.now bucket place (λ f places.
         Writes (cell_to (head_cell bucket) place places) (to_be_bytes w64 (link_in f place))
         (D.past disk.old) (D.past disk.new)) }
@@ -150,9 +156,9 @@ pub fn unlink<D: Disk>(
         (λ x. (x.0 ≡ D.past disk.new) × D.may_leave disk.new x.1) }
 {
     let len = disk.len()?;
-    let Some(cell) = cell_of(disk, 64 + 8 * bucket, place, len)? else {
+    let Some(cell) = cell_of(disk, HEADS_PLACE + CELL_SIZE * bucket, place, len)? else {
         return Ok(());
     };
-    let link = number_at(disk, place.saturating_add(16))?;
+    let link = number_at(disk, place.saturating_add(LINK_OFFSET as u64))?;
     disk.write_at(cell, &link.to_be_bytes())
 }

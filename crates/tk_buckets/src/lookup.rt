@@ -3,6 +3,7 @@ ghost use Rattle.std.specs.Prelude.{◌≡◌, ◌+◌, ◌-◌, ◌*◌, ◌/�
 ghost use Rattle.tk_disk.specs.Crash.{OnlyReads};
 ghost use Rattle.tk_disk.specs.Disk.{HasCause};
 ghost use Rattle.tk_model.specs.Orders.{same_bytes};
+ghost use Rattle.tk_block.specs.Sizes.{key_len_offset, key_offset, least_extent};
 ghost use Rattle.tk_block.specs.Number.{u16_in, u32_in, u64_in};
 ghost use Rattle.tk_block.specs.declared.head.StaticHead.{StaticHead};
 ghost use Rattle.tk_buckets.specs.Chain.{IsLinked, IsWhole};
@@ -10,24 +11,15 @@ ghost use Rattle.tk_buckets.specs.Lookup.{IsBlockOf, body_in_block, read_of_bloc
 ghost use Rattle.tk_buckets.specs.Seen.{Sees, shown_block};
 
 use crate::read::read_bytes;
-use tk_block::{u16_at, u32_at, u64_at};
+use tk_block::{
+    BODY_OFFSET, EXTENT_OFFSET, KEY_LEN_OFFSET, KEY_OFFSET, LEAST_EXTENT, LINK_OFFSET,
+    VALUE_LEN_OFFSET, u16_at, u32_at, u64_at,
+};
 use tk_disk::{Disk, DiskError};
 use tk_model::is_same;
 
 /// Head, link, numbers and the first eight letters of the key.
-const FRONT: usize = 48;
-/// Where the parts of a block stand.
-const EXTENT: usize = 4;
-
-const LINK: usize = 16;
-
-const KIND: usize = 24;
-
-const KEY_LEN: usize = 26;
-
-const VALUE_LEN: usize = 28;
-
-const KEY: usize = 40;
+const FRONT: usize = KEY_OFFSET + 8;
 
 /// A block that a look-up found. Kinds are those of `Body`.
 #[derive(Clone, Copy, Debug)]
@@ -71,15 +63,15 @@ fn read_part<D: Disk>(
 
 /// The key of the block in the buffer has this one's length and first letters.
 fn may_have(buffer: &[u8], key: &[u8]) -> bool
-    requires { 48 ≤ length buffer.now }
+    requires { least_extent ≤ length buffer.now }
     ensures short { result ≡ true → length key.now < 65536 }
-    ensures value { result ≡ ((u16_in buffer.now 26 == length key.now)
+    ensures value { result ≡ ((u16_in buffer.now key_len_offset == length key.now)
         && same_bytes (take (min (length key.now) 8) key.now)
-        (take (min (length key.now) 8) (drop 40 buffer.now))) }
+        (take (min (length key.now) 8) (drop key_offset buffer.now))) }
 {
-    let first = key.len().min(FRONT - KEY);
-    u16_at(buffer, KEY_LEN) as usize == key.len()
-        && is_same(&key[..first], &buffer[KEY..KEY + first])
+    let first = key.len().min(FRONT - KEY_OFFSET);
+    u16_at(buffer, KEY_LEN_OFFSET) as usize == key.len()
+        && is_same(&key[..first], &buffer[KEY_OFFSET..KEY_OFFSET + first])
 }
 
 /// Whether the block at a place has the key. The buffer then has the block's link, and where the block has the key, its
@@ -90,8 +82,8 @@ fn has_key_at<D: Disk>(
     buffer: &mut [u8],
     key: &[u8],
 ) -> Result<bool, DiskError>
-    requires front { 48 ≤ length buffer.old }
-    requires key { min 65575 (40 + length key.now) ≤ length buffer.old }
+    requires front { least_extent ≤ length buffer.old }
+    requires key { min 65575 (key_offset + length key.now) ≤ length buffer.old }
     ensures sees { (h : StaticHead) → IfSome (D.image disk.old) (λ f. IsWhole h f place
         → length f < 2 ^ 64 → IfOk result (Sees f key.now place buffer.new)) }
     ensures cost { (h : StaticHead) → IfSome (D.image disk.old) (λ f. IsWhole h f place
@@ -109,22 +101,22 @@ fn has_key_at<D: Disk>(
     if !may_have(buffer, key) {
         return Ok(false);
     }
-    let end = KEY + key.len() + u32_at(buffer, VALUE_LEN) as usize;
+    let end = KEY_OFFSET + key.len() + u32_at(buffer, VALUE_LEN_OFFSET) as usize;
     let end = end.min(buffer.len());
     read_part(disk, place, buffer, FRONT, end)?;
-    Ok(is_same(key, &buffer[KEY..KEY + key.len()]))
+    Ok(is_same(key, &buffer[KEY_OFFSET..KEY_OFFSET + key.len()]))
 }
 
 /// The block at a place, of which the buffer has the front.
 fn shown_block(place: u64, buffer: &[u8]) -> FoundBlock
-    requires { 48 ≤ length buffer.now }
+    requires { least_extent ≤ length buffer.now }
     ensures { result ≡ shown_block place buffer.now }
 {
     FoundBlock {
         place,
-        extent: u64_at(buffer, EXTENT),
-        kind: buffer[KIND],
-        value_len: u32_at(buffer, VALUE_LEN),
+        extent: u64_at(buffer, EXTENT_OFFSET),
+        kind: buffer[BODY_OFFSET],
+        value_len: u32_at(buffer, VALUE_LEN_OFFSET),
     }
 }
 
@@ -138,8 +130,8 @@ pub fn find_block<D: Disk>(
     key: &[u8],
 ) -> Result<Option<FoundBlock>, DiskError>
     requires len { IfSome (D.image disk.old) (λ f. length f ≤ len) }
-    requires front { 48 ≤ length buffer.old }
-    requires key { min 65575 (40 + length key.now) ≤ length buffer.old }
+    requires front { least_extent ≤ length buffer.old }
+    requires key { min 65575 (key_offset + length key.now) ≤ length buffer.old }
     // the answer
     ensures found { (h : StaticHead) (places : List ℕ) → IfSome (D.image disk.old) (λ f.
         IsLinked h f first places → IfOk result (Finds f key.now places buffer.new)) }
@@ -148,7 +140,8 @@ pub fn find_block<D: Disk>(
     ensures cost { (h : StaticHead) (places : List ℕ) → IfSome (D.image disk.old) (λ f.
         IsLinked h f first places → D.taken_count disk.new
         ≤ D.taken_count disk.old + read_of_chain f key.now (length buffer.old) places) }
-    ensures bound { D.taken_count disk.new ≤ D.taken_count disk.old + len / 48 * length buffer.old }
+    ensures bound { D.taken_count disk.new
+        ≤ D.taken_count disk.old + len / least_extent * length buffer.old }
     ensures more { D.taken_count disk.old ≤ D.taken_count disk.new }
     // the disk
     ensures image { D.image disk.new ≡ D.image disk.old }
@@ -158,11 +151,11 @@ pub fn find_block<D: Disk>(
 {
     let mut place = first;
     let mut steps = 0;
-    while place != 0 && steps < len / 48 {
+    while place != 0 && steps < len / LEAST_EXTENT {
         if has_key_at(disk, place, buffer, key)? {
             return Ok(Some(shown_block(place, buffer)));
         }
-        place = u64_at(buffer, LINK);
+        place = u64_at(buffer, LINK_OFFSET);
         steps += 1;
     }
     Ok(None)
@@ -176,19 +169,19 @@ pub fn fill_value<D: Disk>(
     key: &[u8],
     into: &mut [u8],
 ) -> Result<(), DiskError>
-    requires key { 40 + length key.now ≤ length buffer.now }
+    requires key { key_offset + length key.now ≤ length buffer.now }
     ensures filled { IfSome (D.image disk.old) (λ f. length f < 2 ^ 64
         → length into.old ≤ block.now.value_len → (x : IsBlockOf f key.now buffer.now block.now)
         → IfOk result (λ _. into.new ≡ take (length into.old) x.body.value)) }
     ensures cost { D.taken_count disk.new ≤ D.taken_count disk.old
-        + (length into.old - (length buffer.now - (40 + length key.now))) }
+        + (length into.old - (length buffer.now - (key_offset + length key.now))) }
     ensures image { D.image disk.new ≡ D.image disk.old }
     ensures more { D.taken_count disk.old ≤ D.taken_count disk.new }
     ensures cause { HasCause (D.fault_count disk.old) (D.fault_count disk.new) result }
     ensures still { OnlyReads D.may_leave D.moment D.left_since D.past D.left_with
         disk.old disk.new }
 {
-    let start = KEY + key.len();
+    let start = KEY_OFFSET + key.len();
     let have = into.len().min(buffer.len() - start);
     into[..have].copy_from_slice(&buffer[start..start + have]);
     if have < into.len() {

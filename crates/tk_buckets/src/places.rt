@@ -1,6 +1,7 @@
 ghost use Rattle.std.specs.Prelude.{◌≡◌, ◌+◌, ◌*◌, ◌/◌, ◌≤◌, List, [], ℕ, length, IfOk, IfSome};
 ghost use Rattle.tk_disk.specs.Crash.{OnlyReads};
 ghost use Rattle.tk_disk.specs.Disk.{HasFaultCause};
+ghost use Rattle.tk_block.specs.Sizes.{cell_size, least_extent};
 ghost use Rattle.tk_block.specs.Number.{u64_in};
 ghost use Rattle.tk_block.specs.declared.head.StaticHead.{StaticHead};
 ghost use Rattle.tk_block.specs.Text.{base_of};
@@ -10,6 +11,7 @@ ghost use Rattle.tk_buckets.specs.Chain.{IsLinked, IsWritten, bucket_blocks, hea
 
 use crate::read::number_at;
 use std::alloc::Global;
+use tk_block::{LEAST_EXTENT, LINK_OFFSET};
 use tk_disk::{Disk, DiskError};
 use tk_model::ListOf;
 
@@ -35,8 +37,9 @@ pub fn chain<D: Disk>(
     // what was read: a link of each block
     ensures taken { (h : StaticHead) (places : List ℕ) → IfSome (D.image disk.old) (λ f.
         IsLinked h f first places
-        → D.taken_count disk.new ≤ D.taken_count disk.old + 8 * length places) }
-    ensures bound { D.taken_count disk.new ≤ D.taken_count disk.old + 8 * (len / 48) }
+        → D.taken_count disk.new ≤ D.taken_count disk.old + cell_size * length places) }
+    ensures bound { D.taken_count disk.new
+        ≤ D.taken_count disk.old + cell_size * (len / least_extent) }
     ensures more { D.taken_count disk.old ≤ D.taken_count disk.new }
     // the disk
     ensures image { D.image disk.new ≡ D.image disk.old }
@@ -46,9 +49,9 @@ pub fn chain<D: Disk>(
 {
     let mut places = PlaceList::new(alloc);
     let mut next = first;
-    while next != 0 && (places.len() as u64) < len / 48 {
+    while next != 0 && (places.len() as u64) < len / LEAST_EXTENT {
         places.push(next)?;
-        next = number_at(disk, next.saturating_add(16))?;
+        next = number_at(disk, next.saturating_add(LINK_OFFSET as u64))?;
     }
     Ok(places)
 }

@@ -15,7 +15,7 @@ use Rattle.tk_model.proofs.RecordLaws.{behind_earlier, one_rising, after_rising}
 use Rattle.tk_block.specs.declared.head.StaticHead.{StaticHead}
 use Rattle.tk_block.specs.Text.{base_of}
 use Rattle.tk_block.specs.Blocks.{body_of, extent_of, group_bodies, is_nil}
-use Rattle.tk_block.specs.Layout.{Placed, bucket_in, laid, end_of, bodies_of}
+use Rattle.tk_block.specs.Layout.{placed, Placed, bucket_in, laid, end_of, bodies_of}
 use Rattle.tk_block.proofs.Layouts.{laid-append}
 use Rattle.tk_append.specs.Opening.{change_in}
 use Rattle.tk_buckets.specs.Chain.{block_step, bucket_blocks}
@@ -102,13 +102,13 @@ module _ (p bucket : ℕ) where
   left_by_pick false x found = refl
 
   left_after_one : (place n : ℕ) (last : Bool) (c : Change) (m : List Pair) (found : List Placed) → Rising Hash m → in_bucket p bucket m ≡ left_by found
-      → in_bucket p bucket (after_one Hash c m) ≡ left_by (block_step p bucket found (record { place = place; body = body_of n c last }))
+      → in_bucket p bucket (after_one Hash c m) ≡ left_by (block_step p bucket found (placed place (body_of n c last)))
   left_after_one place n last (Put pair) m found rising is =
       put_in pair m rising ∙ ap (λ (l : List Pair). cond (bucket_in p pair.key == bucket) (put Hash pair l) l) is
-      ∙ left_by_pick (bucket_in p pair.key == bucket) (record { place = place; body = body_of n (Put pair) last }) found
+      ∙ left_by_pick (bucket_in p pair.key == bucket) (placed place (body_of n (Put pair) last)) found
   left_after_one place n last (Drop k) m found rising is =
       without_in k m ∙ ap (λ (l : List Pair). cond (bucket_in p k == bucket) (without k l) l) is
-      ∙ left_by_pick (bucket_in p k == bucket) (record { place = place; body = body_of n (Drop k) last }) found
+      ∙ left_by_pick (bucket_in p k == bucket) (placed place (body_of n (Drop k) last)) found
   left_after_one place n last Clear m found rising is = refl
 
   left_after : (place n : ℕ) (cs : List Change) (m : List Pair) (found : List Placed) → Rising Hash m → in_bucket p bucket m ≡ left_by found
@@ -116,7 +116,7 @@ module _ (p bucket : ℕ) where
   left_after place n [] m found rising is = is
   left_after place n (c ∷ cs) m found rising is =
       let b = body_of n c (is_nil cs) in
-      left_after (place + extent_of b) n cs (after_one Hash c m) (block_step p bucket found (record { place = place; body = b })) (one_rising Hash c m rising)
+      left_after (place + extent_of b) n cs (after_one Hash c m) (block_step p bucket found (placed place b)) (one_rising Hash c m rising)
       (left_after_one place n (is_nil cs) c m found rising is)
 
   left_replayed : (place : ℕ) (gs : List Group) (m : List Pair) (found : List Placed) → Rising Hash m → in_bucket p bucket m ≡ left_by found

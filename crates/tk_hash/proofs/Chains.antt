@@ -14,7 +14,7 @@ use Rattle.tk_model.proofs.RecordLaws.{one_rising, after_rising, find_put_same, 
 use Rattle.tk_block.specs.declared.head.StaticHead.{StaticHead}
 use Rattle.tk_block.specs.Text.{base_of}
 use Rattle.tk_block.specs.Blocks.{body_of, extent_of, group_bodies, is_nil}
-use Rattle.tk_block.specs.Layout.{Placed, bucket_in, laid, end_of, bodies_of}
+use Rattle.tk_block.specs.Layout.{placed, Placed, bucket_in, laid, end_of, bodies_of}
 use Rattle.tk_block.proofs.Layouts.{laid-append}
 use Rattle.tk_buckets.specs.Chain.{block_step, bucket_blocks}
 use Rattle.tk_hash.specs.Chain.{chain_of, value_in, value_by}
@@ -35,7 +35,7 @@ by_other_key false key x found other = refl
 
 module _ (p place n : ℕ) (last : Bool) (key : List ℕ) (m : List Pair) (found : List Placed) where
   abbrev block : Change → Placed
-  block c = record { place = place; body = body_of n c last }
+  block c = placed place (body_of n c last)
 
   after_put : (pair : Pair) (same : Bool) → same_bytes key pair.key ≡ same → find key m ≡ value_by key found
       → find key (after_one Hash (Put pair) m) ≡ value_by key (block_step p (bucket_in p key) found (block (Put pair)))
@@ -65,7 +65,7 @@ found_after : (p place n : ℕ) (key : List ℕ) (cs : List Change) (m : List Pa
 found_after p place n key [] m found rising is = is
 found_after p place n key (c ∷ cs) m found rising is =
     let b = body_of n c (is_nil cs) in
-    found_after p (place + extent_of b) n key cs (after_one Hash c m) (block_step p (bucket_in p key) found (record { place = place; body = b })) (one_rising Hash c m rising)
+    found_after p (place + extent_of b) n key cs (after_one Hash c m) (block_step p (bucket_in p key) found (placed place b)) (one_rising Hash c m rising)
     (found_after_one p place n (is_nil cs) key m found c rising is)
 
 found_replayed : (p place : ℕ) (key : List ℕ) (gs : List Group) (m : List Pair) (found : List Placed) → Rising Hash m → find key m ≡ value_by key found

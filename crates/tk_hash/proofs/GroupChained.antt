@@ -15,7 +15,7 @@ use Rattle.tk_model.specs.Records.{AllFit, HasNoClear}
 use Rattle.tk_block.specs.Text.{base_of, static_text, closing_text}
 use Rattle.tk_block.specs.Number.{u64_in}
 use Rattle.tk_block.specs.Blocks.{body_of, is_nil, group_bodies, extent_of, key_of}
-use Rattle.tk_block.specs.Layout.{Placed, laid, links_of, end_of, newest, bodies_of, bucket_in, heads_text}
+use Rattle.tk_block.specs.Layout.{placed, Placed, laid, links_of, end_of, newest, bodies_of, bucket_in, heads_text}
 use Rattle.tk_block.specs.declared.block.Body.{Body}
 use Rattle.tk_block.specs.declared.head.StaticHead.{StaticHead}
 use Rattle.tk_block.proofs.Grammar.{length-closing_text, length-static_text}
@@ -104,7 +104,7 @@ chained_more p ns heads links place e key c rest cs end number before same none 
     let its : HasKey key body = subst (λ (k : List ℕ). HasKey k body) (sym same) (has_its_key c rest number (is_nil rest) none) in
     let linked : placed_in ns b (slice_index heads b) ≡ get_or (with_new ns heads) b 0 = sym (head_behind ns heads b (omega (arith, below, whole))) in
     ahead_more p (with_new ns heads) (with_new (ns ++ n ∷ []) heads) links place e _ c rest cs end number before long
-    (λ l h. subst (λ (m : List ℕ). HeadsAre p m (l ++ record { place = place; body = body } ∷ [])) (sym (with_more ns n heads)) (steps.heads_more p b place key body (with_new ns heads) l its refl below h))
+    (λ l h. subst (λ (m : List ℕ). HeadsAre p m (l ++ placed place body ∷ [])) (sym (with_more ns n heads)) (steps.heads_more p b place key body (with_new ns heads) l its refl below h))
     (λ l h. linked ∙ steps.link_is p b key body (with_new ns heads) l its refl below h)
     a
 

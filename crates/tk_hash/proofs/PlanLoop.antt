@@ -4,7 +4,7 @@ use Rattle.tk_model.specs.declared.record.Change.{Change}
 use Rattle.tk_model.specs.declared.record.Change.TheVariants as changes
 use Rattle.tk_model.specs.Records.{AllFit}
 use Rattle.tk_block.specs.Blocks.{body_of, is_nil, group_bodies, extent_of}
-use Rattle.tk_block.specs.Layout.{Placed, laid, links_of, link_of, end_of}
+use Rattle.tk_block.specs.Layout.{placed, Placed, laid, links_of, link_of, end_of}
 use Rattle.std.proofs.lemmas.List.{append-nil}
 use Rattle.tk_append.specs.Chains.{HeadsAre}
 
@@ -33,11 +33,11 @@ begun p heads links cs end number before none are = record {
 -- one change more
 pub ahead_more : (p : ℕ) (heads new links : List ℕ) (place e link : ℕ) (c : Change) (rest cs : List Change) (end number : ℕ) (before : List Placed)
     → e ≡ extent_of (body_of number c (is_nil rest))
-    → ((l : List Placed) → HeadsAre p heads l → HeadsAre p new (l ++ record { place = place; body = body_of number c (is_nil rest) } ∷ []))
+    → ((l : List Placed) → HeadsAre p heads l → HeadsAre p new (l ++ placed place (body_of number c (is_nil rest)) ∷ []))
     → ((l : List Placed) → HeadsAre p heads l → link ≡ link_of p l (body_of number c (is_nil rest)))
     → Ahead p heads links place (c ∷ rest) cs end number before → Ahead p new (links ++ link ∷ []) (place + e) rest cs end number before
 ahead_more p heads new links place e link c rest cs end number before long renew linked_by a =
-    let x : Placed = record { place = place; body = body_of number c (is_nil rest) } in
+    let x : Placed = placed place (body_of number c (is_nil rest)) in
     let left : List Placed = laid (place + e) (group_bodies number rest) in
     let same : left ≡ laid (place + extent_of (body_of number c (is_nil rest))) (group_bodies number rest) = ap (λ (n : ℕ). laid (place + n) (group_bodies number rest)) long in
     record {

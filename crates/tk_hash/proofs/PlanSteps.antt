@@ -5,7 +5,7 @@ use Rattle.std.proofs.Math.ListN.{set, replicate}
 use Rattle.std.proofs.lemmas.Bool.{eq-eqb, ne_eqb, cases_eq}
 use Rattle.std.proofs.lemmas.List.{length-replicate, get_or-replicate, length-set}
 use Rattle.tk_block.specs.declared.block.Body.{Body}
-use Rattle.tk_block.specs.Layout.{Placed, newest, renewed, link_of, bucket_in}
+use Rattle.tk_block.specs.Layout.{placed, Placed, newest, renewed, link_of, bucket_in}
 use Rattle.tk_block.proofs.Layouts.{newest-append}
 use Rattle.tk_model.specs.declared.record.Pair.{Pair}
 use Rattle.tk_model.specs.declared.record.Change.{Change}
@@ -19,13 +19,13 @@ pick_place false false same place found c k = absurd (cc)
 pick_place false true true place found c k = refl
 pick_place false true false place found c k = refl
 
-renewed_is : (p bucket found place : ℕ) (key : List ℕ) (b : Body) → HasKey key b → renewed p bucket found (record { place = place; body = b }) ≡ cond (bucket_in p key == bucket) place found
+renewed_is : (p bucket found place : ℕ) (key : List ℕ) (b : Body) → HasKey key b → renewed p bucket found (placed place b) ≡ cond (bucket_in p key == bucket) place found
 renewed_is p bucket found place key b has =
     pick_place (b.kind == 4) ((b.kind == 1) || (b.kind == 2)) (bucket_in p b.key == bucket) place found has.no_clear has.kind
     ∙ ap (λ (k : List ℕ). cond (bucket_in p k == bucket) place found) has.key_is
 
 newest_set : (p bucket slot place : ℕ) (key : List ℕ) (b : Body) (heads : List ℕ) (before : List Placed) → HasKey key b → slot ≡ bucket_in p key → slot < length heads
-    → get_or heads bucket 0 ≡ newest p bucket 0 before → get_or (set heads slot place) bucket 0 ≡ renewed p bucket (newest p bucket 0 before) (record { place = place; body = b })
+    → get_or heads bucket 0 ≡ newest p bucket 0 before → get_or (set heads slot place) bucket 0 ≡ renewed p bucket (newest p bucket 0 before) (placed place b)
 newest_set p bucket slot place key b heads before has is below was = elim (cases_eq (bucket_in p key) bucket) [
   | inl e ↦
       ap (λ (k : ℕ). get_or (set heads slot place) k 0) (sym e ∙ sym is) ∙ get_or-set_same heads slot place 0 below
@@ -36,12 +36,12 @@ newest_set p bucket slot place key b heads before has is below was = elim (cases
 ]
 
 pub heads_more : (p slot place : ℕ) (key : List ℕ) (b : Body) (heads : List ℕ) (before : List Placed) → HasKey key b → slot ≡ bucket_in p key → slot < 2 ^ p
-    → HeadsAre p heads before → HeadsAre p (set heads slot place) (before ++ record { place = place; body = b } ∷ [])
+    → HeadsAre p heads before → HeadsAre p (set heads slot place) (before ++ placed place b ∷ [])
 heads_more p slot place key b heads before has is below are = record {
   whole = length-set heads slot place ∙ are.whole;
   newest_each = λ k within.
       newest_set p k slot place key b heads before has is (omega (arith, below, are.whole)) (are.newest_each k within)
-      ∙ sym (newest-append p k 0 before (record { place = place; body = b } ∷ []));
+      ∙ sym (newest-append p k 0 before (placed place b ∷ []));
 }
 
 no_clear_link : (clear : Bool) (n : ℕ) → clear ≡ false → (if clear then 0 else n) ≡ n
@@ -58,13 +58,13 @@ cleared_newest : (kind : ℕ) (clear : Bool) (rest : ℕ) → clear ≡ true →
 cleared_newest kind true rest e = refl
 cleared_newest kind false rest e = absurd (cc)
 
-pub cleared : (p place : ℕ) (b : Body) (heads : List ℕ) (before : List Placed) → b.kind ≡ 4 → heads ≡ replicate (2 ^ p) 0 → HeadsAre p heads (before ++ record { place = place; body = b } ∷ [])
-cleared p place b heads before kind is = subst (λ (l : List ℕ). HeadsAre p l (before ++ record { place = place; body = b } ∷ [])) (sym is) (record {
+pub cleared : (p place : ℕ) (b : Body) (heads : List ℕ) (before : List Placed) → b.kind ≡ 4 → heads ≡ replicate (2 ^ p) 0 → HeadsAre p heads (before ++ placed place b ∷ [])
+cleared p place b heads before kind is = subst (λ (l : List ℕ). HeadsAre p l (before ++ placed place b ∷ [])) (sym is) (record {
   whole = length-replicate (2 ^ p) 0;
   newest_each = λ k below.
       get_or-replicate (2 ^ p) k 0 0 below
       ∙ sym (cleared_newest b.kind (b.kind == 4) _ (eq-eqb _ _ kind))
-      ∙ sym (newest-append p k 0 before (record { place = place; body = b } ∷ []));
+      ∙ sym (newest-append p k 0 before (placed place b ∷ []));
 })
 
 pub has_put : (key : List ℕ) (c : Change) (pair : Pair) (number : ℕ) (last : Bool) → c ≡ Put pair → key ≡ pair.key → HasKey key (body_of number c last)

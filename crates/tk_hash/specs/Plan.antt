@@ -10,6 +10,7 @@ use Rattle.tk_model.specs.declared.record.Group.{Group}
 use Rattle.tk_model.specs.declared.record.Change.{Change}
 use Rattle.tk_model.specs.declared.record.Change.TheVariants as changes
 use Rattle.tk_model.specs.Records.{find, after, Rising}
+use Rattle.tk_block.specs.Sizes.{heads_place, cell_size}
 use Rattle.tk_block.specs.Blocks.{is_nil}
 use Rattle.tk_disk.specs.Past.{Past}
 use Rattle.tk_disk.specs.Crash.{Torn, Follows, LeavesOnly}
@@ -44,8 +45,8 @@ pub record Puts {D : Type 0} (image : D → Option (List ℕ)) (may_leave : D �
   pub end : log_end new ≡ log_end old
   pub told : is_some (image (log_disk new)) ≡ is_some (image (log_disk old))
   pub taken_same : taken (log_disk new) ≡ taken (log_disk old)
-  pub crash : Follows (Torn 64 (8 * 2 ^ (log_head old).p)) (may_leave (log_disk old)) (may_leave (log_disk new))
-  pub time : LeavesOnly moment left_since (log_disk old) (log_disk new) (λ c. (d : List ℕ) × may_leave (log_disk old) d × Torn 64 (8 * 2 ^ (log_head old).p) d c)
+  pub crash : Follows (Torn heads_place (cell_size * 2 ^ (log_head old).p)) (may_leave (log_disk old)) (may_leave (log_disk new))
+  pub time : LeavesOnly moment left_since (log_disk old) (log_disk new) (λ c. (d : List ℕ) × may_leave (log_disk old) d × Torn heads_place (cell_size * 2 ^ (log_head old).p) d c)
   -- heads alone were written
   pub fair : (groups : List Group) → KeepsFair past moment left_with (log_head old) groups [] (log_disk old) (log_disk new)
 

@@ -8,6 +8,7 @@ use Rattle.tk_store.specs.declared.error.StoreError.{StoreError}
 use Rattle.tk_store.specs.Store.{First, HasCause, groups_made_by}
 use Rattle.tk_hash.specs.Hash.{hash_disk, hash_constants}
 use Rattle.tk_hash.specs.declared.store.HashStore.{HashStore}
+use Rattle.tk_block.specs.Sizes.{closing_place, closing_size}
 
 -- whatever the store stands for
 abbrev pub FromStands : {S : Type 0} → (stands : S → First → List Group → ℕ → Type 0) → S → (First → List Group → ℕ → Type 0) → Type 0
@@ -23,7 +24,7 @@ with_close s next since = since ++ groups_made_by (hash_constants s) next []
 
 -- an opening that marks the file leaves its closing part torn at most
 abbrev pub MarkTornOnly : {D : Type 0} → (may_leave : D → List ℕ → Type 0) → (moment : D → ℕ) → (left_since : D → ℕ → List ℕ → Type 0) → (old new : D) → Type 0
-MarkTornOnly may_leave moment left_since old new = LeavesOnly moment left_since old new (λ c. (d : List ℕ) × may_leave old d × Torn 32 32 d c)
+MarkTornOnly may_leave moment left_since old new = LeavesOnly moment left_since old new (λ c. (d : List ℕ) × may_leave old d × Torn closing_place closing_size d c)
 
 -- an opening that is refused, and not by a fault
 abbrev pub UnlessFaulty : {D T : Type 0} → Result T (Unopened D) → (Unopened D → Type 0) → Type 0

@@ -5,6 +5,7 @@ use Rattle.tk_model.specs.Records.{find, replay}
 use Rattle.tk_model.specs.declared.record.Order.TheVariants.{Hash}
 use Rattle.tk_model.specs.declared.record.Pair.{Pair}
 use Rattle.tk_model.specs.declared.record.Group.{Group}
+use Rattle.tk_block.specs.Sizes.{key_offset}
 use Rattle.tk_block.specs.declared.head.StaticHead.{StaticHead}
 use Rattle.tk_append.specs.Chains.{HeadsAre}
 use Rattle.tk_append.specs.Log.{blocks_of}
@@ -31,7 +32,7 @@ pub record KnowsFile (image : Option (List ℕ)) (m : HeldFile) : Type 0 where
 pub record HasValue (key : List ℕ) (value : Option (List ℕ)) (f buffer : List ℕ) (before now cost : ℕ) (x : FoundBlock) : Type 0 where
   pub block : IsBlockOf f key buffer x
   pub value_is : value ≡ Some block.body.value
-  pub left : now + (x.value_len - (length buffer - (40 + length key))) ≤ before + cost
+  pub left : now + (x.value_len - (length buffer - (key_offset + length key))) ≤ before + cost
 
 -- what a search for a value came to
 abbrev pub Sought : List ℕ → Option (List ℕ) → (f buffer : List ℕ) → (before now cost : ℕ) → Option FoundBlock → Type 0

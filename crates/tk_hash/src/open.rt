@@ -10,6 +10,7 @@ ghost use Rattle.tk_append.specs.Log.{Tells, closed_text};
 ghost use Rattle.tk_append.specs.LogParts.{log_disk, log_head, log_end, with_closing, open_mark};
 ghost use Rattle.tk_append.specs.LogPasts.{Marks};
 ghost use Rattle.tk_append.specs.Read.{IsOutside};
+ghost use Rattle.tk_block.specs.Sizes.{heads_place};
 ghost use Rattle.tk_block.specs.Text.{is_static};
 ghost use Rattle.tk_hash.specs.Relations.{MarkTornOnly, UnlessFaulty};
 
@@ -17,7 +18,7 @@ use crate::found::FoundKey;
 use crate::store::HashStore;
 use std::alloc::Global;
 use tk_append::{CountedLog, GroupLog, read_counted, write_or_empty};
-use tk_block::{Closing, StaticHead};
+use tk_block::{CELL_SIZE, Closing, HEADS_PLACE, StaticHead};
 use tk_disk::{Disk, DiskError, zeros};
 use tk_model::{NoMemory, OpenError, PairList, ShardOf, Unopened};
 
@@ -70,7 +71,7 @@ fn begin<D: Disk>(
     closing: Closing,
     writable: bool,
 ) -> Result<Closing, DiskError>
-    requires there { IfSome (D.image (log_disk log.old)) (λ f. 64 ≤ length f) }
+    requires there { IfSome (D.image (log_disk log.old)) (λ f. heads_place ≤ length f) }
     // the log
     ensures head { log_head log.new ≡ log_head log.old }
     ensures end { log_end log.new ≡ log_end log.old }
@@ -254,7 +255,7 @@ impl<D: Disk> HashStore<D> {
         let mut disk = disk;
         match write_empty(alloc, &mut disk, &head) {
             Ok(()) => {
-                let size = 64 + (8 << p);
+                let size = HEADS_PLACE + (CELL_SIZE << p);
                 let log = GroupLog::of(alloc, disk, head, size);
                 let closing = Closing {
                     size,

@@ -7,6 +7,7 @@ ghost use Rattle.tk_model.specs.Records.{after, replay, AllFit, IsClearAlone};
 ghost use Rattle.tk_model.specs.declared.record.Order.TheVariants.{Hash};
 ghost use Rattle.tk_model.specs.declared.record.Group.{Group};
 ghost use Rattle.tk_store.specs.Store.{HasCause, NeverFull};
+ghost use Rattle.tk_block.specs.Sizes.{heads_place, cell_size};
 ghost use Rattle.tk_block.specs.Text.{base_of};
 ghost use Rattle.tk_block.specs.Blocks.{group_bodies};
 ghost use Rattle.tk_block.specs.Layout.{laid, links_of, end_of};
@@ -219,11 +220,11 @@ pub(crate) fn put_heads<D: Disk>(log: &mut GroupLog<D>, heads: &NewHeads) -> Res
     ensures cause { HasDiskCause (D.fault_count (log_disk log.old))
         (D.fault_count (log_disk log.new)) result }
     // a crash
-    ensures crash { Follows (Torn 64 (8 * 2 ^ (log_head log.old).p))
+    ensures crash { Follows (Torn heads_place (cell_size * 2 ^ (log_head log.old).p))
         (D.may_leave (log_disk log.old)) (D.may_leave (log_disk log.new)) }
     ensures time { LeavesOnly D.moment D.left_since (log_disk log.old) (log_disk log.new)
         (λ c. (d : List ℕ) × D.may_leave (log_disk log.old) d
-        × Torn 64 (8 * 2 ^ (log_head log.old).p) d c) }
+        × Torn heads_place (cell_size * 2 ^ (log_head log.old).p) d c) }
     ensures fair { (groups : List Group) → KeepsFair D.past D.moment D.left_with (log_head log.old)
         groups [] (log_disk log.old) (log_disk log.new) }
 {

@@ -8,7 +8,7 @@ ghost use Rattle.tk_buckets.specs.Lookup.{StandsAt};
 ghost use Rattle.tk_append.specs.Opening.{change_in};
 
 use std::alloc::Global;
-use tk_block::{u16_at, u32_at};
+use tk_block::{BODY_OFFSET, KEY_LEN_OFFSET, KEY_OFFSET, VALUE_LEN_OFFSET, u16_at, u32_at};
 use tk_buckets::read_bytes;
 use tk_disk::{Disk, DiskError, zeros};
 use tk_model::{Bytes, Change, NoMemory, Pair};
@@ -78,9 +78,9 @@ fn front_at<D: Disk>(disk: &mut D, place: u64) -> Result<Front, StoreError>
     let mut bytes = [0; 48];
     fill_from(disk, place, &mut bytes)?;
     Ok(Front {
-        kind: bytes[24],
-        key: u16_at(&bytes, 26),
-        value: u32_at(&bytes, 28),
+        kind: bytes[BODY_OFFSET],
+        key: u16_at(&bytes, KEY_LEN_OFFSET),
+        value: u32_at(&bytes, VALUE_LEN_OFFSET),
     })
 }
 
@@ -121,7 +121,7 @@ pub(crate) fn change_at<D: Disk>(
     let text = bytes_at(
         alloc,
         disk,
-        place.saturating_add(40),
+        place.saturating_add(KEY_OFFSET as u64),
         key + front.value as usize,
     )?;
     Ok(change_of(alloc, front.kind, &text[..key], &text[key..])?)

@@ -6,6 +6,7 @@ ghost use Rattle.tk_model.specs.Records.{find, replay};
 ghost use Rattle.tk_model.specs.declared.record.Order.TheVariants.{Hash};
 ghost use Rattle.tk_model.specs.declared.record.Group.{Group};
 ghost use Rattle.tk_store.specs.Store.{HasCause, NeverFull, OkOrFault, Gives, GivesInto};
+ghost use Rattle.tk_block.specs.Sizes.{key_offset, least_extent};
 ghost use Rattle.tk_block.specs.Layout.{bucket_in};
 ghost use Rattle.tk_buckets.specs.Chain.{places_in};
 ghost use Rattle.tk_buckets.specs.Lookup.{IsBlockOf, Finds, read_of_chain};
@@ -14,7 +15,7 @@ ghost use Rattle.tk_hash.specs.Chain.{chain_of, cost_in};
 ghost use Rattle.tk_hash.specs.Seek.{KnowsFile, Sought};
 
 use std::alloc::Global;
-use tk_block::StaticHead;
+use tk_block::{KEY_OFFSET, StaticHead};
 use tk_buckets::{FoundBlock, fill_value, find_block};
 use tk_disk::{Disk, DiskError, zeros};
 use tk_model::{Bytes, bucket, mix};
@@ -23,9 +24,7 @@ use tk_store::StoreError;
 /// The kind of a block that sets a value.
 const SET: u8 = 1;
 /// Head, link, numbers and the first eight letters of the key.
-const FRONT: usize = 48;
-/// Where the key stands in a block.
-const KEY: usize = 40;
+const FRONT: usize = KEY_OFFSET + 8;
 
 /// What stands in memory of a file.
 #[derive(Clone, Copy)]
@@ -55,8 +54,8 @@ fn find_in_bucket<D: Disk>(
 ) -> Result<Option<FoundBlock>, StoreError>
     requires p { file.now.head.p ≤ 24 }
     requires file { KnowsFile (D.image disk.old) file.now }
-    requires front { 48 ≤ length buffer.old }
-    requires key { min 65575 (40 + length key.now) ≤ length buffer.old }
+    requires front { least_extent ≤ length buffer.old }
+    requires key { min 65575 (key_offset + length key.now) ≤ length buffer.old }
     // the answer
     ensures short { IfOk result (λ x. IfSome x (λ _. length key.now < 65536)) }
     ensures found { (groups : List Group) → IfSome (D.image disk.old) (λ f.
@@ -91,8 +90,8 @@ fn seek_value<D: Disk>(
 ) -> Result<Option<FoundBlock>, StoreError>
     requires p { file.now.head.p ≤ 24 }
     requires file { KnowsFile (D.image disk.old) file.now }
-    requires front { 48 ≤ length buffer.old }
-    requires key { min 65575 (40 + length key.now) ≤ length buffer.old }
+    requires front { least_extent ≤ length buffer.old }
+    requires key { min 65575 (key_offset + length key.now) ≤ length buffer.old }
     // the answer
     ensures short { IfOk result (λ at. IfSome at (λ _. length key.now < 65536)) }
     ensures value { (groups : List Group) → IfSome (D.image disk.old) (λ f.
@@ -124,9 +123,10 @@ fn window(len: usize, key: usize, value: usize) -> usize
     requires { 131072 ≤ len }
     ensures within { result ≤ len }
     ensures front { 48 ≤ result }
-    ensures key { min 65575 (40 + key) ≤ result }
+    ensures key { min 65575 (key_offset + key) ≤ result }
 {
-    KEY.saturating_add(key)
+    KEY_OFFSET
+        .saturating_add(key)
         .saturating_add(value)
         .max(FRONT)
         .min(len)
@@ -140,12 +140,12 @@ fn fill_answer<D: Disk>(
     key: &[u8],
     into: &mut [u8],
 ) -> Result<(), StoreError>
-    requires key { 40 + length key.now ≤ length buffer.now }
+    requires key { key_offset + length key.now ≤ length buffer.now }
     ensures filled { IfSome (D.image disk.old) (λ f. length f < 2 ^ 64
         → length into.old ≤ block.now.value_len → (x : IsBlockOf f key.now buffer.now block.now)
         → IfOk result (λ _. into.new ≡ take (length into.old) x.body.value)) }
     ensures cost { D.taken_count disk.new ≤ D.taken_count disk.old
-        + (length into.old - (length buffer.now - (40 + length key.now))) }
+        + (length into.old - (length buffer.now - (key_offset + length key.now))) }
     ensures image { D.image disk.new ≡ D.image disk.old }
     ensures still { OnlyReads D.may_leave D.moment D.left_since D.past D.left_with
         disk.old disk.new }
@@ -169,12 +169,12 @@ fn give_value<D: Disk>(
     key: &[u8],
     out: &mut Bytes,
 ) -> Result<(), StoreError>
-    requires key { 40 + length key.now ≤ length buffer.now }
+    requires key { key_offset + length key.now ≤ length buffer.now }
     ensures value { IfSome (D.image disk.old) (λ f. length f < 2 ^ 64
         → (x : IsBlockOf f key.now buffer.now block.now)
         → IfOk result (λ _. out.new ≡ x.body.value)) }
     ensures cost { D.taken_count disk.new ≤ D.taken_count disk.old
-        + (block.now.value_len - (length buffer.now - (40 + length key.now))) }
+        + (block.now.value_len - (length buffer.now - (key_offset + length key.now))) }
     ensures image { D.image disk.new ≡ D.image disk.old }
     ensures still { OnlyReads D.may_leave D.moment D.left_since D.past D.left_with
         disk.old disk.new }
@@ -182,7 +182,7 @@ fn give_value<D: Disk>(
     ensures cause { HasCause (D.fault_count disk.old) (D.fault_count disk.new) result }
     ensures never { NeverFull result }
 {
-    let start = KEY + key.len();
+    let start = KEY_OFFSET + key.len();
     let len = block.value_len as usize;
     if len <= buffer.len() - start {
         out.clear();

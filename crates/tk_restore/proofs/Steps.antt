@@ -117,11 +117,11 @@ ends_unread h f place left size e bytes old new here long whole shown head enoug
     (λ n. none_on (body_at (drop 24 (drop place f)) place) n upto.w place e (drop place f) head refl not_there)
 
 goes_by : (most : ℕ) (h : StaticHead) (f : List ℕ) (place e next : ℕ) (b : Body) (new : Reading) (w : Walk) → place < length f → length f ≤ place + most → (read_on most w place (drop place f)).blocks ≡ read_blocks h f
-    → head_at (drop place f) place ≡ Some e → body_at (drop 24 (drop place f)) place ≡ Some b → may_be_read w e b ≡ true → Knows new (walked w (record { place = place; body = b })) → next ≡ place + min e (length f - place)
+    → head_at (drop place f) place ≡ Some e → body_at (drop 24 (drop place f)) place ≡ Some b → may_be_read w e b ≡ true → Knows new (walked w (record { place = place; extent = e; body = b })) → next ≡ place + min e (length f - place)
     → ReadUpto h f next new
 goes_by zero h f place e next b new w here enough rest head body may knows is = absurd (omega (arith, enough, here))
 goes_by (suc n) h f place e next b new w here enough rest head body may knows is =
-    let x : Placed = record { place = place; body = b } in
+    let x : Placed = record { place = place; extent = e; body = b } in
     let on = block_on n w place e (drop place f) b head body may in
     elim (cases_lt e (length f - place)) [
       | inl below ↦

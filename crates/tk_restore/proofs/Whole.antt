@@ -59,7 +59,7 @@ block_small None ob n w place bytes body all go = all
 block_small (Some e) None n w place bytes body all go = all
 block_small (Some e) (Some b) n w place bytes body all go =
     let fits = ((bodies place).found (drop 24 bytes) b body).0 in
-    let x : Placed = record { place = place; body = b } in
+    let x : Placed = record { place = place; extent = e; body = b } in
     by_may (may_be_read w e b) w _ all (go (walked w x) e (bodies_more w.blocks x all (record { key_fits = fits.1; value_fits = value_small b fits.0 })))
 
 read_small : (n : ℕ) (w : Walk) (place : ℕ) (bytes : List ℕ) → AllBodiesSmall w.blocks → AllBodiesSmall (read_on n w place bytes).blocks

@@ -3,6 +3,7 @@ use Rattle.std.specs.Prelude.{◌≡◌, ◌⊎◌, ℕ, ◌+◌, ◌^◌, ◌<�
 use Rattle.std.specs.Io.{StartsWith}
 use Rattle.tk_model.specs.declared.record.Order.TheVariants.{Hash}
 use Rattle.tk_model.specs.Records.{replay}
+use Rattle.tk_block.specs.Sizes.{body_offset}
 use Rattle.tk_block.specs.declared.block.Body.{Body}
 use Rattle.tk_block.specs.declared.head.StaticHead.{StaticHead}
 use Rattle.tk_block.specs.Text.{head_at}
@@ -27,13 +28,13 @@ MayEnd b = ((b.kind ≡ 1) ⊎ (b.kind ≡ 2)) ⊎ (b.last ≡ true)
 -- a block of this extent was read
 pub record IsRead (w : Walk) (place extent : ℕ) (bytes : List ℕ) (reading : Reading) : Type 0 where
   pub body : Body
-  pub there : body_at (drop 24 bytes) place ≡ Some body
+  pub there : body_at (drop body_offset bytes) place ≡ Some body
   pub may : may_be_read w extent body ≡ true
-  pub knows : Knows reading (walked w (record { place = place; body = body }))
+  pub knows : Knows reading (walked w (record { place = place; extent = extent; body = body }))
 
 -- no block of this extent may be read
 abbrev pub NotRead : Walk → (place extent : ℕ) → (bytes : List ℕ) → Type 0
-NotRead w place extent bytes = (b : Body) → body_at (drop 24 bytes) place ≡ Some b → may_be_read w extent b ≡ false
+NotRead w place extent bytes = (b : Body) → body_at (drop body_offset bytes) place ≡ Some b → may_be_read w extent b ≡ false
 
 abbrev pub ReadOrNot : Bool → Walk → (place extent : ℕ) → (bytes : List ℕ) → Reading → Type 0
 ReadOrNot true w place extent bytes reading = IsRead w place extent bytes reading
@@ -41,7 +42,7 @@ ReadOrNot false w place extent bytes reading = NotRead w place extent bytes × K
 
 -- the bytes are all that are left, or as many as a block of this extent can have before its padding
 abbrev pub IsEnough : (left extent : ℕ) → List ℕ → Type 0
-IsEnough left extent bytes = (length bytes ≡ left) ⊎ ((24 ≤ length bytes) × (min extent (2 ^ 26) ≤ length bytes))
+IsEnough left extent bytes = (length bytes ≡ left) ⊎ ((body_offset ≤ length bytes) × (min extent (2 ^ 26) ≤ length bytes))
 
 -- the head at a place of a file, and enough bytes of its block
 pub record HoldsBlock (f : List ℕ) (place left : ℕ) (bytes : List ℕ) (found : Option ℕ) : Type 0 where

@@ -9,7 +9,7 @@ ghost use Rattle.tk_restore.specs.Readings.{MayEnd};
 use crate::records::Records;
 use std::alloc::Global;
 use tk_append::{OpenGroup, is_in_turn};
-use tk_block::{Block, body_at};
+use tk_block::{BLOCK_OVERHEAD, BODY_OFFSET, Block, body_at};
 use tk_model::{NoMemory, PairList};
 
 /// The records that complete groups leave, and the changes of a group that is begun.
@@ -39,7 +39,7 @@ fn add_change(records: &mut Records, block: Block<'_>) -> Result<(), NoMemory>
 }
 
 impl Reading {
-    ghost use Rattle.std.specs.Prelude.{◌≡◌, ◌≢◌, ◌⊎◌, true, false, IfOk, OnOk};
+    ghost use Rattle.std.specs.Prelude.{◌≡◌, ◌≢◌, ◌⊎◌, ℕ, true, false, IfOk, OnOk};
     ghost use Rattle.tk_block.specs.Blocks.{IsSmall, body_said, is_body};
     ghost use Rattle.tk_append.specs.Fresh.{AllPairsSmall};
     ghost use Rattle.tk_append.specs.Opening.{Walk, begin, walked};
@@ -65,7 +65,7 @@ impl Reading {
             → result ≡ may_be_read w extent (body_said block.entry) }
         ensures clears { result ≡ true → MayEnd (body_said block.entry) }
     {
-        let room = 44 + block.key.len() + block.value.len();
+        let room = BLOCK_OVERHEAD + block.key.len() + block.value.len();
         room as u64 <= extent && block.kind != 3 && is_in_turn(self.before, self.open_group, block)
     }
 
@@ -73,9 +73,8 @@ impl Reading {
     fn add(&mut self, place: u64, block: Block<'_>) -> Result<(), NoMemory>
         requires small { IsSmall block.key.now block.value.now }
         requires clears { MayEnd (body_said block) }
-        ensures { (w : Walk) → Knows self.old w
-            → OnOk result (Knows self.new
-            (walked w (record { place = place; body = body_said block.entry }))) }
+        ensures { (w : Walk) (extent : ℕ) → Knows self.old w → OnOk result (Knows self.new
+            (walked w (record { place = place; extent = extent; body = body_said block.entry }))) }
     {
         let number = block.number;
         add_change(&mut self.records, block)?;
@@ -96,10 +95,10 @@ impl Reading {
         ensures { (w : Walk) → Knows self.old w
             → IfOk result (λ more. ReadOrNot more w place extent bytes.now self.new) }
     {
-        if bytes.len() < 24 {
+        if bytes.len() < BODY_OFFSET {
             return Ok(false);
         }
-        let Some(block) = body_at(&bytes[24..], place) else {
+        let Some(block) = body_at(&bytes[BODY_OFFSET..], place) else {
             return Ok(false);
         };
         if !self.may_read(extent, block) {

@@ -16,7 +16,7 @@ ghost use Rattle.tk_restore.specs.Readings.{HoldsBlock, Scanned};
 use crate::reading::Reading;
 use std::alloc::Global;
 use tk_append::{Window, length_of};
-use tk_block::{StaticHead, base_of, read_head, read_static};
+use tk_block::{BODY_OFFSET, StaticHead, base_of, read_head, read_static};
 use tk_disk::{Disk, DiskError};
 use tk_model::{OpenError, PairList};
 
@@ -92,7 +92,7 @@ fn hold_block<D: Disk>(
     ensures still { OnlyReads D.may_leave D.moment D.left_since D.past D.left_with disk.old
         disk.new }
 {
-    if !fill(disk, window, place, 24, left)? {
+    if !fill(disk, window, place, BODY_OFFSET as u64, left)? {
         return Ok(None);
     }
     let Some(extent) = read_head(window.as_slice(), place) else {

@@ -14,6 +14,7 @@ use Rattle.tk_hash.specs.Hash.{RestoresTo}
 use Rattle.tk_util.specs.Calls.{HoldsDatabase}
 use Rattle.tk_util.specs.Ran.{reply_changes}
 use Rattle.tk_util.specs.Words.{Command, Get, Set, Remove, Restore}
+use Rattle.tk_block.specs.Sizes.{closing_place, closing_size}
 
 -- the groups that a call may add: none, or the one of its changes
 abbrev pub MayAdd : (next : ℕ) → List Change → List Group → Type 0
@@ -40,7 +41,7 @@ pub record IsInterrupted (changes : List Group → List Change) (f : List ℕ) (
 
 -- It was not opened: all that a crash might have left since the start is what it might have left before, the closing part torn.
 abbrev pub IsUnopened : (before : ℕ) (left : List ℕ → Type 0) (was since : ℕ → List ℕ → Type 0) → Type 0
-IsUnopened before left was since = (t : ℕ) (c : List ℕ) → t ≤ before → since t c → was t c ⊎ ((d : List ℕ) × left d × Torn 32 32 d c)
+IsUnopened before left was since = (t : ℕ) (c : List ℕ) → t ≤ before → since t c → was t c ⊎ ((d : List ℕ) × left d × Torn closing_place closing_size d c)
 
 -- one of both, of a call that changes what `changes` says
 abbrev pub Interrupts : (changes : List Group → List Change) (f : List ℕ) (before now : ℕ) (left : List ℕ → Type 0) (was since : ℕ → List ℕ → Type 0) (left_with : ℕ → Past × List ℕ → Type 0) → Type 0

@@ -5,8 +5,8 @@ use Rattle.tk_append.specs.Walked.{Shows}
 use Rattle.tk_append.proofs.DiskChecks.{too_short, closing_cause, sizes}
 use Rattle.tk_append.proofs.check.read_front.Goals as goal
 
-pub returns-then-size-lt64-clause-fails : goal.returns-then-size-lt64-clause-fails
-returns-then-size-lt64-clause-fails g c = too_short (g.D.Disk.image c.args.disk.now) c.args.kinds.now c.in_ok-size.size c.in_ok-size.ensures.value c.if-size-lt64.true
+pub returns-then-size-lt-HEADS_PLACE-clause-fails : goal.returns-then-size-lt-HEADS_PLACE-clause-fails
+returns-then-size-lt-HEADS_PLACE-clause-fails g c = too_short (g.D.Disk.image c.args.disk.now) c.args.kinds.now c.in_ok-size.size c.in_ok-size.ensures.value c.if-size-lt-HEADS_PLACE.true
 
 pub returns-in_err-closing-clause-fails : goal.returns-in_err-closing-clause-fails
 returns-in_err-closing-clause-fails g c =

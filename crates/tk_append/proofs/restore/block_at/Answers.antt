@@ -3,8 +3,8 @@ use Rattle.tk_block.specs.Blocks.{body_said}
 use Rattle.tk_append.proofs.Rereading.{none_short, behind_link, value_small}
 use Rattle.tk_append.proofs.restore.block_at.Goals as goal
 
-pub returns-then-bytes-lt24 : goal.returns-then-bytes-lt24
-returns-then-bytes-lt24 c = none_short c.args.place c.args.bytes.now c.if-bytes-lt24.true
+pub returns-then-bytes-lt-BODY_OFFSET : goal.returns-then-bytes-lt-BODY_OFFSET
+returns-then-bytes-lt-BODY_OFFSET c = none_short c.args.place c.args.bytes.now c.if-bytes-lt-BODY_OFFSET.true
 
 pub returns : goal.returns
 returns c =

@@ -3,8 +3,8 @@ use Rattle.tk_block.specs.Blocks.{body_said}
 use Rattle.tk_append.proofs.WalkerSteps.{behind_link, none_short, value_small}
 use Rattle.tk_append.proofs.walker.block_at.Goals as goal
 
-pub returns-then-bytes-lt24 : goal.returns-then-bytes-lt24
-returns-then-bytes-lt24 c = none_short c.args.place c.args.bytes.now c.if-bytes-lt24.true
+pub returns-then-bytes-lt-BODY_OFFSET : goal.returns-then-bytes-lt-BODY_OFFSET
+returns-then-bytes-lt-BODY_OFFSET c = none_short c.args.place c.args.bytes.now c.if-bytes-lt-BODY_OFFSET.true
 
 pub returns : goal.returns
 returns c =
@@ -12,7 +12,7 @@ returns c =
     record {
       head = sym c.in_ok-extent.ensures.value;
       body = behind_link c.args.place c.args.bytes.now _ (sym c.in_ok-block.ensures.value);
-      long = omega (arith, c.if-bytes-lt24.false);
+      long = omega (arith, c.if-bytes-lt-BODY_OFFSET.false);
       hash = c.mix.ensures;
       small = record { key_fits = fits.1; value_fits = value_small (body_said c.in_ok-block.block) fits.0 };
     }

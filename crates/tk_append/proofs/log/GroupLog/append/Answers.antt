@@ -11,7 +11,7 @@ use Rattle.tk_append.proofs.log.GroupLog.append.Goals as goal
 pub renumber-requires : goal.renumber-requires
 renumber-requires g c =
     let r = c.requires.reserved_text in
-    ready_text c.args.self.now.reserved_text c.args.self.now.end r.2.number c.args.number r.0 r.1 r.2.fit r.2.text r.3
+    ready_text c.args.self.now.reserved_text c.args.self.now.end c.args.number r.0 r.1 r.2.fit r.2.text r.3
 
 pub write_at-requires-clause-end : goal.write_at-requires-clause-end
 write_at-requires-clause-end g c =

@@ -13,7 +13,7 @@ returns-then-not-may_read-clause-read c h =
 pub returns-clause-read : goal.returns-clause-read
 returns-clause-read c h =
     reads_on h c.args.bytes.now c.args.place _ c.args.self.now c.add.new.self c.in-Some.found c.requires c.in-Some.ensures (λ w knows. sym (c.may_read.ensures w knows) ∙ c.if-not-may_read.false)
-    (λ w knows. c.in_ok-add.ensures w knows) (omega (arith, c.min.ensures, length-take (length c.args.bytes.now - c.args.place) (drop c.args.place c.args.bytes.now), length-drop c.args.place c.args.bytes.now))
+    (λ w knows. c.in_ok-add.ensures w c.in-Some.found.extent knows) (omega (arith, c.min.ensures, length-take (length c.args.bytes.now - c.args.place) (drop c.args.place c.args.bytes.now), length-drop c.args.place c.args.bytes.now))
 
 pub returns-clause-further : goal.returns-clause-further
 returns-clause-further c =

@@ -4,8 +4,8 @@ use Rattle.tk_append.proofs.Rereading.{behind_link, value_small}
 use Rattle.tk_restore.proofs.Knowing.{short_not, none_not, other_not}
 use Rattle.tk_restore.proofs.reading.Reading.read.Goals as goal
 
-pub returns-then-bytes-lt24 : goal.returns-then-bytes-lt24
-returns-then-bytes-lt24 c w knows = (short_not w c.args.place c.args.extent c.args.bytes.now c.if-bytes-lt24.true, knows)
+pub returns-then-bytes-lt-BODY_OFFSET : goal.returns-then-bytes-lt-BODY_OFFSET
+returns-then-bytes-lt-BODY_OFFSET c w knows = (short_not w c.args.place c.args.extent c.args.bytes.now c.if-bytes-lt-BODY_OFFSET.true, knows)
 
 pub returns-in_default : goal.returns-in_default
 returns-in_default c w knows =
@@ -36,5 +36,5 @@ returns c w knows = record {
   body = body_said c.in-Some.block;
   there = behind_link c.args.place c.args.bytes.now _ (sym c.in-Some.ensures.value);
   may = sym (c.may_read.ensures.may w knows) ∙ c.if-not-may_read.false;
-  knows = c.in_ok-add.ensures w knows;
+  knows = c.in_ok-add.ensures w c.args.extent knows;
 }
