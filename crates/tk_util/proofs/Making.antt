@@ -1,5 +1,5 @@
 -- What is left of a file that is made.
-use Rattle.std.proofs.Common.{◌≡◌, ◌≢◌, ◌⊎◌, ⊎_elim, ℕ, ◌+◌, ◌≤◌, ◌<◌, ◌^◌, Bool, true, false, List, [], ◌∷◌, ◌++◌, length, drop, replicate, refl, sym, ◌∙◌, ap, subst, inl, inr, arith}
+use Rattle.std.proofs.Common.{◌≡◌, ◌≢◌, ◌⊎◌, ⊎_elim, ℕ, ◌+◌, ◌≤◌, ◌<◌, ◌^◌, Bool, true, List, [], ◌∷◌, length, replicate, refl, sym, ◌∙◌, ap, subst, inl, inr, arith}
 use Rattle.std.specs.Prelude.{Option, Some, None, IfSome, slice_index, map}
 use Rattle.std.specs.Io.{StartsWith}
 use Rattle.std.proofs.lemmas.Bool.{cases_lt}
@@ -11,7 +11,7 @@ use Rattle.tk_model.specs.declared.record.Group.{Group}
 use Rattle.tk_model.specs.declared.record.Pair.{Pair}
 use Rattle.tk_model.specs.declared.record.ShardOf.{ShardOf}
 use Rattle.tk_model.specs.declared.error.OpenError.{OpenError}
-use Rattle.tk_disk.specs.Past.{Past}
+use Rattle.tk_disk.specs.Past.{Past, settled_on}
 use Rattle.tk_disk.specs.Crash.{Elapses, LeavesOnly, PastOnly}
 use Rattle.tk_disk.specs.Folder.{SameHistory, or_empty}
 use Rattle.tk_block.specs.declared.block.Body.{Body}
@@ -32,11 +32,11 @@ use Rattle.tk_append.proofs.FreshEnds.{fresh_accepted}
 use Rattle.tk_append.proofs.FreshPasts.{none_settled}
 use Rattle.tk_append.proofs.Nameless.{none_behind}
 use Rattle.tk_append.proofs.Reopened.{count_upto}
-use Rattle.tk_restore.specs.Restoration.{IsRestoringMoment, BeginsRestored, restored_file, restored_head, restored_records, restored_size}
+use Rattle.tk_restore.specs.Restoration.{IsRestoringMoment, BeginsRestored, restored_head, restored_records, restored_size}
 use Rattle.tk_restore.proofs.Fresh.{together_leaves, records_rising}
 use Rattle.tk_util.specs.declared.words.FileCommand.{FileCommand}
 use Rattle.tk_util.specs.declared.words.FileCommand.TheVariants as asked
-use Rattle.tk_util.specs.Asked.{file_said, IsWithinLimits}
+use Rattle.tk_util.specs.Asked.{file_said}
 use Rattle.tk_util.specs.Calls.{alone}
 use Rattle.tk_util.specs.Making.{KnowsNoHeader, OpensWhole, IsSettingMoment, IsRestoredMoment, IsUnmadeMoment, IsMakingMoment, AtEachMoment, Makes}
 use Rattle.tk_util.specs.Ran.{new_head, set_groups, set_text, IsRestored, restore_fault}
@@ -68,22 +68,17 @@ opens_whole IsFile before x moment none known kinds writable shard accepts =
     let h = accepted_header kinds writable shard x.1 accepts in
     ⊎_elim (λ was. absurd (none h.0 was)) (λ whole. whole kinds writable shard accepts) (moment h.0 h.1 (known h.0 h.1))
 
-empty_past : Past
-empty_past = record { fixed = []; least = 0; writes = [] }
-
-none_known : KnowsNoHeader empty_past
-unfolding static_at
-none_known k (inl is) = absurd (cc is)
-none_known k (inr any) = absurd any
+none_known : KnowsNoHeader (settled_on [])
+none_known k known = none_settled [] (settled_on []) k refl refl known
 
 -- a past in which nothing but a header was written
-header_past : (p : ℕ) (k : StaticHead) → Past
-header_past p k = record { fixed = replicate (base_of p) 0; least = base_of p; writes = record { at = 0; bytes = static_text k } ∷ [] }
+abbrev header_past : (p : ℕ) (k : StaticHead) → Past
+header_past p k = record { fixed = replicate {A = ℕ} (base_of p) 0; least = base_of p; writes = record { at = 0; bytes = static_text k } ∷ [] }
 
 header_fair : (h k : StaticHead) (groups : List Group) → IsFairPast h groups (header_past h.p k)
 header_fair h k groups = record {
   count = 0;
-  stood = record { size = length-replicate (base_of h.p) 0; blocks = drop_all (base_of h.p) (replicate (base_of h.p) 0) (omega (arith, length-replicate (base_of h.p) 0)) };
+  stood = record { size = length-replicate {A = ℕ} (base_of h.p) 0; blocks = drop_all (base_of h.p) (replicate {A = ℕ} (base_of h.p) 0) (omega (arith, length-replicate {A = ℕ} (base_of h.p) 0)) };
   writes = (inl (omega (arith, length-static_text k)), tt);
 }
 
@@ -97,7 +92,7 @@ same_header k j is = cc
 front_whole : (h : StaticHead) (groups : List Group) (count next : ℕ) (f : List ℕ) → end_of (base_of h.p) (bodies_of groups) < 2 ^ 64 → count < 2 ^ 64 → next < 2 ^ 64
     → (k : StaticHead) → static_at f ≡ Some k → StartsWith f (file_text h groups count next) → (kinds : List ℕ) (writable : Bool) (shard : ShardOf) → first_fault kinds writable shard f ≡ None → f ≡ file_text h groups count next
 front_whole h groups count next f size small low k there starts kinds writable shard accepts =
-    fresh_accepted kinds writable shard h groups count next empty_past (header_past h.p k) f size small low (λ j _ _. inr (starts, header_fair h k groups)) none_known
+    fresh_accepted kinds writable shard h groups count next (settled_on []) (header_past h.p k) f size small low (λ j _ _. inr (starts, header_fair h k groups)) none_known
     (λ j is. subst (λ (s : StaticHead). IsKnownHeader (header_past h.p k) s) (same_header k j (sym there ∙ is)) (header_known h.p k f there)) accepts
 
 -- ---- the file of one record
@@ -128,7 +123,7 @@ few_records : (ps : List Pair) (base : ℕ) → base + length ps ≤ end_of base
 few_records [] base = omega arith
 few_records (p ∷ ps) base =
     let bodies = bodies_of (together 0 (p ∷ ps)) in
-    omega (arith, count_upto base bodies, length-append (group_bodies 0 (map Put (p ∷ ps))) [], length-group_bodies 0 (map Put (p ∷ ps)), length-map Put (p ∷ ps))
+    omega (arith, count_upto base bodies, length-append (group_bodies 0 (map Put (p ∷ ps))) [], length-group_bodies 0 (map Put (p ∷ ps)), length-map (p ∷ ps) Put)
 
 next_small : (ps : List Pair) → fresh_next 0 ps ≤ 1
 next_small [] = omega arith
