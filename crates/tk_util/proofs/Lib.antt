@@ -3,6 +3,7 @@ pub mod Crashing
 pub mod Endings
 pub mod GetEndings
 pub mod Interrupting
+pub mod Making
 pub mod Names
 pub mod OnFile
 pub mod OnFolder

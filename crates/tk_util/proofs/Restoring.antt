@@ -110,11 +110,11 @@ neither true c none = absurd (cc none)
 neither false true none = absurd (cc none)
 neither false false none = (refl, refl)
 
-no_fault : (f : List ℕ) (h : StaticHead) → static_at f ≡ Some h → restore_fault f ≡ None → ((h.kind == 2) ≡ false) × (nat_lt (2 ^ 40) (restored_size h f) ≡ false)
+pub no_fault : (f : List ℕ) (h : StaticHead) → static_at f ≡ Some h → restore_fault f ≡ None → ((h.kind == 2) ≡ false) × (nat_lt (2 ^ 40) (restored_size h f) ≡ false)
 unfolding restore_fault
 no_fault f h static none = neither (h.kind == 2) (nat_lt (2 ^ 40) (restored_size h f)) (ap (restore_fault_by f) (sym static) ∙ none)
 
-short_enough : (n : ℕ) → nat_lt (2 ^ 40) n ≡ false → n ≤ 2 ^ 40
+pub short_enough : (n : ℕ) → nat_lt (2 ^ 40) n ≡ false → n ≤ 2 ^ 40
 short_enough n is = grind (arith, nat_tests)
 
 is_whole : (image : List ℕ) (after : Option (List ℕ)) → restore_fault image ≡ None → IsRestored image after → IsWhole image (or_empty after)

@@ -5,6 +5,7 @@ pub mod Done
 pub mod Ends
 pub mod Interrupted
 pub mod Leaves
+pub mod Making
 pub mod Ran
 pub mod Restoring
 pub mod Words

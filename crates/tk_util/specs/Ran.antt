@@ -25,9 +25,13 @@ use Rattle.tk_util.specs.World.{World}
 abbrev pub new_head : StaticHead
 new_head = record { kind = 1; version = 1; p = 10; order = 0; generation = 0 }
 
--- a new hash file with one group of number 0 that sets the key
+-- one group of number 0 that sets the key
+abbrev pub set_groups : (key value : List ℕ) → List Group
+set_groups key value = record { number = 0; changes = Put (record { key = key; value = value }) ∷ [] } ∷ []
+
+-- a new hash file with that group
 abbrev pub set_text : (key value : List ℕ) → List ℕ
-set_text key value = file_text new_head (record { number = 0; changes = Put (record { key = key; value = value }) ∷ [] } ∷ []) 1 1
+set_text key value = file_text new_head (set_groups key value) 1 1
 
 -- the value at a key, in the records of groups
 abbrev pub value_in : (groups : List Group) → (key : List ℕ) → Option (List ℕ)

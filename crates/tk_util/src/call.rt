@@ -15,6 +15,7 @@ ghost use Rattle.tk_store.specs.Store.{IsWhole, LeavesSafe};
 ghost use Rattle.tk_util.specs.declared.call.Stop.{Stop as Stopped};
 ghost use Rattle.tk_util.specs.Calls.{Made, NoRoom, RefusedAt, MadeOn, NoRoomOn, StopTells, Spares, IsStill};
 ghost use Rattle.tk_util.specs.Done.{CrashDone, counted_answer, CallCounts};
+ghost use Rattle.tk_util.specs.Making.{AtEachMoment, IsUnmadeMoment};
 ghost use Rattle.tk_hash.specs.Hash.{HashStands, HashSafe, HashKeptSince, HashUntouched, hash_disk, hash_head, hash_constants, hash_view, opening};
 
 use std::alloc::Global;
@@ -223,6 +224,10 @@ pub(crate) fn run_call<D: Disk, P: RecordProcessor>(
         Interrupts (λ groups. call_changes P.acts p.old key.now (replay Hash groups [])) f
         (D.moment disk) (D.moment result.disk)
         (D.may_leave disk) (D.left_since disk) (D.left_since result.disk)
+        (D.left_with result.disk)) }
+    ensures makes { writable ≡ true
+        → IfSome (D.image disk) (λ f. f ≡ []
+        → AtEachMoment (IsUnmadeMoment (D.past disk)) (D.moment disk) (D.moment result.disk)
         (D.left_with result.disk)) }
     ensures reads { writable ≡ false
         → IsStill (D.image disk) (D.image result.disk) (D.may_leave disk)

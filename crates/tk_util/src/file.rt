@@ -1,13 +1,14 @@
 //! Commands on one file: its disk is taken, the call is made, and the disk is given back.
-ghost use Rattle.std.specs.Prelude.{◌≡◌, ◌≢◌, ◌⊎◌, ℕ, List, true, false, Option, IsSome, IfOk, IfErr, IfSome, OnOk, OnErr, None, Err};
+ghost use Rattle.std.specs.Prelude.{◌≡◌, ◌≢◌, ◌⊎◌, ℕ, List, [], true, false, Option, IsSome, IfOk, IfErr, IfSome, OnOk, OnErr, None, Err};
 ghost use Rattle.tk_disk.specs.Disk.{Rose};
-ghost use Rattle.tk_disk.specs.Folder.{NoneOut, SameBut, SameHistory, or_empty};
+ghost use Rattle.tk_disk.specs.Folder.{NoneOut, SameBut, SameHistory, KeepsHistory, or_empty};
 ghost use Rattle.tk_util.specs.Asked.{file_said, IsWithinLimits};
 ghost use Rattle.tk_util.specs.Calls.{Spares};
 ghost use Rattle.tk_util.specs.Counts.{HasCause, HasExactCause, RoseIn, EndsByCounts};
 ghost use Rattle.tk_util.specs.Done.{CommandDone, CrashLeft, NotTaken, RanOnFile};
 ghost use Rattle.tk_util.specs.Interrupted.{InterruptsCommand};
 ghost use Rattle.tk_util.specs.Leaves.{LeavesToCrash, OthersWithin};
+ghost use Rattle.tk_util.specs.Making.{Makes};
 ghost use Rattle.tk_util.specs.Ran.{Ran, EndsClearly, RoseOf, IsRunStatus, IsEnd, file_of, writes};
 
 use crate::call::{Called, Stop, counted};
@@ -53,6 +54,9 @@ pub(crate) fn take_disk<F: Folder>(folder: &mut F, name: &str, create: bool) -> 
         (F.past_of folder.old name.now) (F.past_of folder.new name.now)
         (F.left_with folder.old name.now) (F.left_with folder.new name.now)) }
     ensures others_crash { OthersWithin name.now (F.leaves folder.old) (F.leaves folder.new) }
+    ensures others_history { (m : List ℕ) → m ≢ name.now
+        → KeepsHistory F.moment_of F.leaves F.left_since F.past_of F.left_with folder.old folder.new
+        m }
 {
     match folder.take(name, create) {
         Ok(Some(disk)) => Ok(disk),
@@ -80,6 +84,9 @@ fn call_command<D: Disk>(
     ensures crashes { IfSome (D.image disk) (λ f.
         InterruptsCommand (file_said command.entry) f (D.moment disk) (D.moment result.disk)
         (D.may_leave disk) (D.left_since disk) (D.left_since result.disk)
+        (D.left_with result.disk)) }
+    ensures makes { (files : List ℕ → Option (List ℕ)) → IfSome (D.image disk) (λ f. f ≡ []
+        → Makes (file_said command.entry) files (D.past disk) (D.moment disk) (D.moment result.disk)
         (D.left_with result.disk)) }
     ensures cause { HasCause Stop.Fault (D.fault_count disk) (D.fault_count result.disk)
         result.answer }
@@ -121,6 +128,13 @@ fn run_unprinted<F: Folder>(
         (F.leaves folder.old (file_of (file_said command.entry)))
         (F.left_since folder.old (file_of (file_said command.entry)))
         (F.left_since folder.new (file_of (file_said command.entry)))
+        (F.left_with folder.new (file_of (file_said command.entry))) }
+    ensures makes { F.tells folder.old ≡ true
+        → or_empty (F.file folder.old (file_of (file_said command.entry))) ≡ []
+        → Makes (file_said command.entry) (F.file folder.old)
+        (F.past_of folder.old (file_of (file_said command.entry)))
+        (F.moment_of folder.old (file_of (file_said command.entry)))
+        (F.moment_of folder.new (file_of (file_said command.entry)))
         (F.left_with folder.new (file_of (file_said command.entry))) }
     ensures counts { EndsByCounts (F.fault_count folder.old) (F.fault_count folder.new)
         (F.disk_faults folder.old) (F.disk_faults folder.new) result }
@@ -170,6 +184,13 @@ pub(crate) fn run_on_file<F: Folder, W: Sink>(
         (F.leaves folder.old (file_of (file_said command.entry)))
         (F.left_since folder.old (file_of (file_said command.entry)))
         (F.left_since folder.new (file_of (file_said command.entry)))
+        (F.left_with folder.new (file_of (file_said command.entry))) }
+    ensures makes { F.tells folder.old ≡ true
+        → or_empty (F.file folder.old (file_of (file_said command.entry))) ≡ []
+        → Makes (file_said command.entry) (F.file folder.old)
+        (F.past_of folder.old (file_of (file_said command.entry)))
+        (F.moment_of folder.old (file_of (file_said command.entry)))
+        (F.moment_of folder.new (file_of (file_said command.entry)))
         (F.left_with folder.new (file_of (file_said command.entry))) }
     ensures fields { IsEnd result }
     ensures status { IsRunStatus (file_said command.entry) result.status }

@@ -1,11 +1,12 @@
 //! `get` and `remove`: calls on a file that has to be there.
-ghost use Rattle.std.specs.Prelude.{◌≡◌, ◌<◌, ◌^◌, ℕ, length, true, false, IfSome};
+ghost use Rattle.std.specs.Prelude.{◌≡◌, ◌<◌, ◌^◌, ℕ, [], length, true, false, IfSome};
 ghost use Rattle.tk_disk.specs.Crash.{Within};
 ghost use Rattle.tk_proc.specs.Replies.{remove_reply};
 ghost use Rattle.tk_util.specs.Calls.{Spares};
 ghost use Rattle.tk_util.specs.Counts.{HasCause};
 ghost use Rattle.tk_util.specs.Done.{CallDone, CrashDone, GetDone};
 ghost use Rattle.tk_util.specs.Interrupted.{Interrupts};
+ghost use Rattle.tk_util.specs.Making.{AtEachMoment, IsUnmadeMoment};
 ghost use Rattle.tk_util.specs.Ran.{reply_changes};
 
 use crate::call::{Called, Stop, run_call};
@@ -46,6 +47,9 @@ pub(crate) fn remove_from<D: Disk>(alloc: Global, disk: D, key: &[u8]) -> Called
         Interrupts (λ groups. reply_changes remove_reply groups key.now) f (D.moment disk)
         (D.moment result.disk)
         (D.may_leave disk) (D.left_since disk) (D.left_since result.disk)
+        (D.left_with result.disk)) }
+    ensures makes { IfSome (D.image disk) (λ f. f ≡ []
+        → AtEachMoment (IsUnmadeMoment (D.past disk)) (D.moment disk) (D.moment result.disk)
         (D.left_with result.disk)) }
     ensures cause { HasCause Stop.Fault (D.fault_count disk) (D.fault_count result.disk)
         result.answer }

@@ -2,13 +2,15 @@
 ghost use Rattle.std.specs.Prelude.{◌≡◌, ◌≢◌, ◌⊎◌, ℕ, List, [], true, false, Option, IfOk, IfErr, IfSome, OnOk, None, Some, Ok, Err};
 ghost use Rattle.std.specs.Option.{is_some};
 ghost use Rattle.tk_disk.specs.Crash.{Within, Only};
-ghost use Rattle.tk_disk.specs.Folder.{NoneOut, SameBut, or_empty};
+ghost use Rattle.tk_disk.specs.Folder.{NoneOut, SameBut, KeepsHistory, or_empty};
 ghost use Rattle.tk_restore.specs.Reading.{IsFit, IsReadFrom};
+ghost use Rattle.tk_restore.specs.Restoration.{IsRestoringMoment};
 ghost use Rattle.tk_util.specs.Asked.{restore_said};
 ghost use Rattle.tk_disk.specs.Disk.{Rose};
 ghost use Rattle.tk_status.specs.declared.finish.Finish.{Finish as End};
 ghost use Rattle.tk_util.specs.Counts.{HasCause, RoseIn, EndsByCounts};
 ghost use Rattle.tk_util.specs.Leaves.{LeavesToCrash};
+ghost use Rattle.tk_util.specs.Making.{AtEachMoment, Makes};
 ghost use Rattle.tk_util.specs.Ran.{RanRestore, EndsClearly, RoseOf, IsRunStatus, IsEnd, restore_fault};
 ghost use Rattle.tk_util.specs.Restoring.{ImageRead, IsReadStop, NewWritten, IsWriteStop, ReadStopped, WroteNew, IsWriteEnd};
 ghost use Rattle.tk_util.specs.Words.{Restore};
@@ -55,6 +57,10 @@ fn write_new<D: Disk>(alloc: Global, restoration: &Restoration, to: &mut D) -> R
         → Within (D.may_leave to.old) (D.may_leave to.new)) }
     ensures durable { IfOk result (λ b. b ≡ true
         → IfSome (D.image to.new) (λ f. Only f (D.may_leave to.new))) }
+    ensures makes { (image : List ℕ) → IsReadFrom image restoration.now
+        → IfSome (D.image to.old) (λ f. f ≡ []
+        → AtEachMoment (IsRestoringMoment image (D.past to.old)) (D.moment to.old) (D.moment to.new)
+        (D.left_with to.new)) }
     ensures cause { HasCause Stop.Fault (D.fault_count to.old) (D.fault_count to.new) result }
 {
     if to.len()? > 0 {
@@ -77,6 +83,9 @@ fn read_from<F: Folder>(alloc: Global, folder: &mut F, name: &str) -> Result<Res
     ensures files { F.tells folder.old ≡ true → (m : List ℕ)
         → F.file folder.new m ≡ F.file folder.old m }
     ensures crash { (m : List ℕ) → Within (F.leaves folder.old m) (F.leaves folder.new m) }
+    ensures history { (m : List ℕ) → m ≢ name.now
+        → KeepsHistory F.moment_of F.leaves F.left_since F.past_of F.left_with folder.old folder.new
+        m }
     ensures met { OnOk result (F.fault_count folder.new ≡ F.fault_count folder.old) }
     ensures disks_met { OnOk result ((m : List ℕ)
         → F.disk_faults folder.new m ≡ F.disk_faults folder.old m) }
@@ -120,6 +129,11 @@ fn write_to<F: Folder>(
     ensures others { SameBut name.now (F.file folder.old) (F.file folder.new) }
     ensures crash { LeavesToCrash true (F.tells folder.old) name.now (F.file folder.old name.now)
         (F.file folder.new name.now) (F.leaves folder.old) (F.leaves folder.new) result }
+    ensures makes { F.tells folder.old ≡ true → (image : List ℕ) → IsReadFrom image restoration.now
+        → or_empty (F.file folder.old name.now) ≡ []
+        → AtEachMoment (IsRestoringMoment image (F.past_of folder.old name.now))
+        (F.moment_of folder.old name.now) (F.moment_of folder.new name.now)
+        (F.left_with folder.new name.now) }
     ensures counts { EndsByCounts (F.fault_count folder.old) (F.fault_count folder.new)
         (F.disk_faults folder.old) (F.disk_faults folder.new) result }
     ensures ends { IsWriteEnd result }
@@ -165,6 +179,12 @@ pub(crate) fn run_restore<F: Folder>(
     ensures crash { LeavesToCrash true (F.tells folder.old) restore.entry.to.now
         (F.file folder.old restore.entry.to.now) (F.file folder.new restore.entry.to.now)
         (F.leaves folder.old) (F.leaves folder.new) result }
+    ensures makes { F.tells folder.old ≡ true
+        → or_empty (F.file folder.old restore.entry.to.now) ≡ []
+        → Makes (Restore (restore_said restore.entry)) (F.file folder.old)
+        (F.past_of folder.old restore.entry.to.now) (F.moment_of folder.old restore.entry.to.now)
+        (F.moment_of folder.new restore.entry.to.now)
+        (F.left_with folder.new restore.entry.to.now) }
     ensures fields { IsEnd result }
     ensures status { IsRunStatus (Restore (restore_said restore.entry)) result.status }
     ensures fault { result.status ≡ 4

@@ -1,10 +1,11 @@
-ghost use Rattle.std.specs.Prelude.{◌≡◌, ◌≢◌, ◌⊎◌, ◌↔◌, ℕ, List, true, false, IfSome, Some, None};
+ghost use Rattle.std.specs.Prelude.{◌≡◌, ◌≢◌, ◌⊎◌, ◌↔◌, ℕ, List, [], true, false, IfSome, Some, None};
 ghost use Rattle.tk_disk.specs.Crash.{Within, Only};
 ghost use Rattle.tk_disk.specs.Disk.{Rose};
 ghost use Rattle.tk_disk.specs.Folder.{NoneOut, or_empty};
 ghost use Rattle.tk_util.specs.Calls.{Spares};
 ghost use Rattle.tk_util.specs.Interrupted.{InterruptsCommand};
 ghost use Rattle.tk_util.specs.Leaves.{OthersWithin};
+ghost use Rattle.tk_util.specs.Making.{IsMakingMoment, Makes};
 ghost use Rattle.tk_util.specs.Words.{Command, command_of, words_of};
 ghost use Rattle.tk_util.specs.Ran.{Ran, EndsClearly, RoseOf, file_of, writes, IsRunStatus, IsEnd};
 
@@ -59,6 +60,16 @@ pub fn run_util<F: Folder, R: Source, W: Sink>(
         (F.moment_of folder.old (file_of c)) (F.moment_of folder.new (file_of c))
         (F.leaves folder.old (file_of c)) (F.left_since folder.old (file_of c))
         (F.left_since folder.new (file_of c)) (F.left_with folder.new (file_of c)) }
+    ensures makes { (c : Command) → command_of (words_of words.now) ≡ Some c
+        → F.tells folder.old ≡ true → or_empty (F.file folder.old (file_of c)) ≡ []
+        → Makes c (F.file folder.old) (F.past_of folder.old (file_of c))
+        (F.moment_of folder.old (file_of c)) (F.moment_of folder.new (file_of c))
+        (F.left_with folder.new (file_of c)) }
+    ensures made { (c : Command) → command_of (words_of words.now) ≡ Some c
+        → F.tells folder.old ≡ true → or_empty (F.file folder.old (file_of c)) ≡ []
+        → IfSome (F.file folder.new (file_of c)) (λ f.
+        IsMakingMoment c (F.file folder.old) (F.past_of folder.old (file_of c))
+        (F.past_of folder.new (file_of c), f)) }
     ensures others { (c : Command) → command_of (words_of words.now) ≡ Some c
         → OthersWithin (file_of c) (F.leaves folder.old) (F.leaves folder.new) }
     // ends and counts

@@ -6,6 +6,7 @@ ghost use Rattle.tk_util.specs.Calls.{Spares};
 ghost use Rattle.tk_util.specs.Counts.{HasCause};
 ghost use Rattle.tk_util.specs.Done.{CallDone, CrashDone, SetDone};
 ghost use Rattle.tk_util.specs.Interrupted.{Interrupts};
+ghost use Rattle.tk_util.specs.Making.{AtEachMoment, IsSettingMoment};
 ghost use Rattle.tk_util.specs.Ran.{reply_changes, set_text};
 
 use crate::call::{Called, Stop, run_call};
@@ -63,6 +64,9 @@ fn set_fresh<D: Disk>(
         → IfSome (D.image disk.new) (λ f. Only f (D.may_leave disk.new))) }
     ensures unwritten { IfOk result (λ b. b ≡ false
         → Within (D.may_leave disk.old) (D.may_leave disk.new)) }
+    ensures makes { IfSome (D.image disk.old) (λ f. f ≡ []
+        → AtEachMoment (IsSettingMoment key.now value.now (D.past disk.old)) (D.moment disk.old)
+        (D.moment disk.new) (D.left_with disk.new)) }
     ensures cause { HasFaultCause (D.fault_count disk.old) (D.fault_count disk.new) result }
 {
     if disk.len()? > 0 {
@@ -119,6 +123,9 @@ pub(crate) fn set_on<D: Disk>(alloc: Global, mut disk: D, key: &[u8], value: &[u
         (D.moment result.disk)
         (D.may_leave disk) (D.left_since disk) (D.left_since result.disk)
         (D.left_with result.disk)) }
+    ensures makes { IfSome (D.image disk) (λ f. f ≡ []
+        → AtEachMoment (IsSettingMoment key.now value.now (D.past disk)) (D.moment disk)
+        (D.moment result.disk) (D.left_with result.disk)) }
     ensures cause { HasCause Stop.Fault (D.fault_count disk) (D.fault_count result.disk)
         result.answer }
 {

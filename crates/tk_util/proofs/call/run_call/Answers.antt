@@ -5,6 +5,7 @@ use Rattle.tk_hash.specs.Hash.{hash_disk}
 use Rattle.tk_util.proofs.CallSteps.{made_at, no_room_at, memory_at, no_place}
 use Rattle.tk_util.proofs.Crashing.{crash_opened, crash_unopened, still_opened}
 use Rattle.tk_util.proofs.Interrupting.{interrupted_at, unopened_at}
+use Rattle.tk_util.proofs.Making.{empty_refused, unopened_unmade}
 use Rattle.tk_util.proofs.Sparing.{spared_at, spared_back}
 use Rattle.tk_util.proofs.call.run_call.Goals as goal
 
@@ -62,3 +63,9 @@ returns-clause-crashes g c = λ may.
 pub returns-in-Err-clause-crashes : goal.returns-in-Err-clause-crashes
 returns-in-Err-clause-crashes g c = λ may.
     unopened_at g.D.Disk.image g.D.Disk.may_leave g.D.Disk.past g.D.Disk.moment g.D.Disk.left_since g.D.Disk.left_with (g.D.Disk.image c.args.disk) _ c.args.disk _ c.in-Err.ensures.back_time
+
+pub returns-clause-makes : goal.returns-clause-makes
+returns-clause-makes g c = λ may. empty_refused (g.D.Disk.image c.args.disk) c.args.writable _ c.in-Ok.ensures.exact
+
+pub returns-in-Err-clause-makes : goal.returns-in-Err-clause-makes
+returns-in-Err-clause-makes g c = λ may. unopened_unmade g.D.Disk.past g.D.Disk.moment g.D.Disk.left_with (g.D.Disk.image c.args.disk) c.args.disk _ c.in-Err.ensures.back_pasts

@@ -1,4 +1,4 @@
-use Rattle.std.proofs.Common.{◌≡◌, ℕ, Bool, true, List, refl, sym, ◌∙◌, subst, inl}
+use Rattle.std.proofs.Common.{◌≡◌, ℕ, Bool, true, List, [], refl, sym, ◌∙◌, subst, inl}
 use Rattle.std.specs.Prelude.{Option, Some, IsSome, Result, Ok}
 use Rattle.tk_disk.specs.Crash.{Within}
 use Rattle.tk_disk.specs.Disk.{Rose}
@@ -10,9 +10,11 @@ use Rattle.tk_util.specs.Ends.{call_end}
 use Rattle.tk_util.specs.Done.{NotTaken, RanOnFile}
 use Rattle.tk_util.specs.Interrupted.{InterruptsCommand}
 use Rattle.tk_util.specs.Leaves.{LeavesToCrash, OthersWithin}
+use Rattle.tk_util.specs.Making.{Makes}
 use Rattle.tk_util.specs.Ran.{IsClearEnd, creates, file_of, writes}
 use Rattle.tk_util.specs.World.{World}
 use Rattle.tk_util.proofs.Interrupting.{not_taken_through, taken_through}
+use Rattle.tk_util.proofs.Making.{taken_makes, untaken_makes}
 use Rattle.tk_util.proofs.Endings.{no_fault, rose_moved, two_names}
 use Rattle.tk_util.proofs.OnFile.{on_file_done, on_file_counted, clear_end, rose_of, file_ran, not_taken, not_taken_settled}
 use Rattle.tk_util.proofs.OnFolder.{leaves_through, crash_counted, fault_counted}
@@ -114,3 +116,15 @@ returns-clause-crashes g c = λ tells.
     (g.F.Folder.leaves c.args.folder.now n) (g.F.Folder.left_since c.args.folder.now n) (g.F.Folder.left_since c.give-given.new.self n) (g.F.Folder.left_with c.give-given.new.self n)) c.file.ensures
     (taken_through _ _ _ _ _ _ _ _ _ _ _ _ _ _ _ _ _ _ _ _ c.in-Ok.ensures.crash (given_back g c) (file_said c.args.command) (or_empty (g.F.Folder.file c.args.folder.now c.file.result.now)) (g.F.D.Disk.image c.in-Ok.disk) (c.in-Ok.ensures.image tells)
     c.call_command-disk.ensures.crashes)
+
+pub returns-in-Err-clause-makes : goal.returns-in-Err-clause-makes
+returns-in-Err-clause-makes g c = λ tells empty.
+    subst (λ (n : List ℕ). Makes (file_said c.args.command) (g.F.Folder.file c.args.folder.now) (g.F.Folder.past_of c.args.folder.now n) (g.F.Folder.moment_of c.args.folder.now n) (g.F.Folder.moment_of c.take_disk.new.folder n) (g.F.Folder.left_with c.take_disk.new.folder n)) c.file.ensures
+    (untaken_makes _ _ _ _ _ _ _ _ _ _ c.in-Err.ensures.err_crash (g.met.F.Folder.only_with c.args.folder.now c.file.result.now) c.args.command (g.F.Folder.file c.args.folder.now))
+
+pub returns-clause-makes : goal.returns-clause-makes
+returns-clause-makes g c = λ tells.
+    subst (λ (n : List ℕ). or_empty (g.F.Folder.file c.args.folder.now n) ≡ []
+    → Makes (file_said c.args.command) (g.F.Folder.file c.args.folder.now) (g.F.Folder.past_of c.args.folder.now n) (g.F.Folder.moment_of c.args.folder.now n) (g.F.Folder.moment_of c.give-given.new.self n) (g.F.Folder.left_with c.give-given.new.self n)) c.file.ensures
+    (taken_makes _ _ _ _ _ _ _ _ _ _ _ _ _ _ _ _ _ _ _ _ c.in-Ok.ensures.crash (given_back g c) (file_said c.args.command) (g.F.Folder.file c.args.folder.now) (or_empty (g.F.Folder.file c.args.folder.now c.file.result.now)) (g.F.D.Disk.image c.in-Ok.disk)
+    (c.in-Ok.ensures.image tells) (c.call_command-disk.ensures.makes (g.F.Folder.file c.args.folder.now)))

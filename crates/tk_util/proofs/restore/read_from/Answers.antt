@@ -1,4 +1,5 @@
 use Rattle.std.proofs.Common.{refl, ◌∙◌}
+use Rattle.tk_util.proofs.Making.{histories_joined}
 use Rattle.tk_util.proofs.Names.{all_same, all_within}
 use Rattle.tk_util.proofs.OnFolder.{others_through}
 use Rattle.tk_util.proofs.Restoring.{read_stopped, read_files}
@@ -42,3 +43,12 @@ pub returns-in-Err-default-clause-crash : goal.returns-in-Err-default-clause-cra
 returns-in-Err-default-clause-crash g c =
     all_within _ _ c.args.name.now (others_through c.args.name.now _ (g.F.Folder.leaves c.take_disk.new.folder) _ c.take_disk.ensures.others_crash (λ m ne. (c.give-given.ensures.others_crash m ne).crash))
     (λ d l. c.in-Ok.ensures.crash.crash d (c.read_image-read.ensures.still d (c.give-given.ensures.crash.crash d l)))
+
+pub returns-in-Ok-Ok-clause-history : goal.returns-in-Ok-Ok-clause-history
+returns-in-Ok-Ok-clause-history g c = λ m ne. histories_joined _ _ _ _ _ _ _ _ _ _ _ _ _ _ _ (c.take_disk.ensures.others_history m ne) (c.give-given.ensures.others_crash m ne)
+
+pub returns-in-Ok-Err-clause-history : goal.returns-in-Ok-Err-clause-history
+returns-in-Ok-Err-clause-history g c = λ m ne. histories_joined _ _ _ _ _ _ _ _ _ _ _ _ _ _ _ (c.take_disk.ensures.others_history m ne) (c.give-given.ensures.others_crash m ne)
+
+pub returns-in-Err-default-clause-history : goal.returns-in-Err-default-clause-history
+returns-in-Err-default-clause-history g c = λ m ne. histories_joined _ _ _ _ _ _ _ _ _ _ _ _ _ _ _ (c.take_disk.ensures.others_history m ne) (c.give-given.ensures.others_crash m ne)

@@ -1,7 +1,9 @@
 use Rattle.std.proofs.Common.{◌≡◌, ◌≢◌, ℕ, ◌∙◌, subst, inl, inr}
 use Rattle.tk_disk.specs.Disk.{Rose}
+use Rattle.tk_disk.specs.Folder.{or_empty}
 use Rattle.tk_status.specs.Finish.{ended, exists_at}
 use Rattle.tk_util.proofs.Endings.{not_status, rose_moved}
+use Rattle.tk_util.proofs.Making.{taken_restores, untaken_restores}
 use Rattle.tk_util.proofs.OnFolder.{wrote_leaves, fault_counted}
 use Rattle.tk_util.proofs.Restoring.{nothing_settled, wrote_settled, wrote_by, counted_true, write_stopped, memory_stop}
 use Rattle.tk_util.proofs.restore.write_to.Given as Given
@@ -85,3 +87,26 @@ returns-in-Err-written-clause-crash g c =
     (g.F.D.Disk.may_leave c.in-Ok.disk) (g.F.D.Disk.may_leave c.write_new-written.new.to) (g.F.D.Disk.image c.in-Ok.disk) (g.F.D.Disk.image c.write_new-written.new.to) c.in-Ok.ensures.image (λ tells. c.give-given.ensures.here (c.take_disk.ensures.tells ∙ tells))
     c.write_new-written.ensures.unwritten c.in-Ok.ensures.crash.crash c.give-given.ensures.crash.crash c.take_disk.ensures.others_crash (λ m ne. (c.give-given.ensures.others_crash m ne).crash)
     (other 3 (λ h. cc h) (λ h. cc h), other 7 (λ h. cc h) (λ h. cc h)) (λ either. absurd (elim either [ inl e ↦ other 0 (λ h. cc h) (λ h. cc h) e | inr e ↦ other 6 (λ h. cc h) (λ h. cc h) e ]))
+
+pub returns-in-Err-clause-makes : goal.returns-in-Err-clause-makes
+returns-in-Err-clause-makes g c = λ tells image from empty. untaken_restores _ _ _ _ _ _ _ _ _ _ c.in-Err.ensures.err_crash (g.met.F.Folder.only_with c.args.folder.now c.args.name.now) image
+
+pub returns-in-Ok-given-clause-makes : goal.returns-in-Ok-given-clause-makes
+returns-in-Ok-given-clause-makes g c = λ tells image from.
+    taken_restores _ _ _ _ _ _ _ _ _ _ _ _ _ _ _ _ _ _ _ _ c.in-Ok.ensures.crash c.give-given.ensures.crash image (or_empty (g.F.Folder.file c.args.folder.now c.args.name.now)) (g.F.D.Disk.image c.in-Ok.disk) (c.in-Ok.ensures.image tells)
+    (c.write_new-written.ensures.makes image from)
+
+pub returns-in-Err-given-clause-makes : goal.returns-in-Err-given-clause-makes
+returns-in-Err-given-clause-makes g c = λ tells image from.
+    taken_restores _ _ _ _ _ _ _ _ _ _ _ _ _ _ _ _ _ _ _ _ c.in-Ok.ensures.crash c.give-given.ensures.crash image (or_empty (g.F.Folder.file c.args.folder.now c.args.name.now)) (g.F.D.Disk.image c.in-Ok.disk) (c.in-Ok.ensures.image tells)
+    (c.write_new-written.ensures.makes image from)
+
+pub returns-in-Ok-false-clause-makes : goal.returns-in-Ok-false-clause-makes
+returns-in-Ok-false-clause-makes g c = λ tells image from.
+    taken_restores _ _ _ _ _ _ _ _ _ _ _ _ _ _ _ _ _ _ _ _ c.in-Ok.ensures.crash c.give-given.ensures.crash image (or_empty (g.F.Folder.file c.args.folder.now c.args.name.now)) (g.F.D.Disk.image c.in-Ok.disk) (c.in-Ok.ensures.image tells)
+    (c.write_new-written.ensures.makes image from)
+
+pub returns-in-Err-written-clause-makes : goal.returns-in-Err-written-clause-makes
+returns-in-Err-written-clause-makes g c = λ tells image from.
+    taken_restores _ _ _ _ _ _ _ _ _ _ _ _ _ _ _ _ _ _ _ _ c.in-Ok.ensures.crash c.give-given.ensures.crash image (or_empty (g.F.Folder.file c.args.folder.now c.args.name.now)) (g.F.D.Disk.image c.in-Ok.disk) (c.in-Ok.ensures.image tells)
+    (c.write_new-written.ensures.makes image from)

@@ -1,5 +1,6 @@
 use Rattle.tk_util.proofs.Crashing.{crash_behind}
 use Rattle.tk_util.proofs.Interrupting.{behind_at, looked_at}
+use Rattle.tk_util.proofs.Making.{never_made}
 use Rattle.tk_util.proofs.SetEndings.{set_moved}
 use Rattle.tk_util.proofs.Sparing.{spares_left, spares_moved}
 use Rattle.tk_util.proofs.set.set_on.Goals as goal
@@ -34,3 +35,6 @@ returns-in-Err-Fault-clause-crashes g c = looked_at g.D.Disk.image g.D.Disk.may_
 
 pub returns-in-Err-NoMemory-clause-crashes : goal.returns-in-Err-NoMemory-clause-crashes
 returns-in-Err-NoMemory-clause-crashes g c = looked_at g.D.Disk.image g.D.Disk.may_leave g.D.Disk.past g.D.Disk.moment g.D.Disk.left_since g.D.Disk.left_with (g.D.Disk.image c.args.disk) _ c.args.disk c.set_fresh.new.disk c.set_fresh.ensures.looks
+
+pub returns-in-Ok-false-clause-makes : goal.returns-in-Ok-false-clause-makes
+returns-in-Ok-false-clause-makes g c = never_made _ _ (c.in-Ok-false.ensures.full c.in-Ok-false.field-0-test)
