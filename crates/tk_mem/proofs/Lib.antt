@@ -1,3 +1,6 @@
 pub mod Sizes
 pub mod Undoing
 pub mod Standing
+pub mod Filing
+pub mod Openings
+pub mod Written

@@ -43,7 +43,7 @@ fn add_put(
     changes.push(Change::Put(Pair { key, value }))
 }
 
-fn setting(alloc: Global, key: &[u8], value: &[u8]) -> Result<ChangeList, NoMemory>
+pub(crate) fn setting(alloc: Global, key: &[u8], value: &[u8]) -> Result<ChangeList, NoMemory>
     requires key { length key.now ≤ 8 }
     requires value { length value.now ≤ 8 }
     ensures fit { IfOk result (AllFitWithin 16777215) }
@@ -65,7 +65,7 @@ fn dropping(alloc: Global, key: &[u8]) -> Result<ChangeList, NoMemory>
 }
 
 /// Makes a group, and answers what it needed.
-fn apply<S: SeqStore>(store: &mut S, number: u64, changes: &ChangeList) -> Result<u64, StoreError>
+pub(crate) fn apply<S: SeqStore>(store: &mut S, number: u64, changes: &ChangeList) -> Result<u64, StoreError>
     requires whole { IsWhole S.stands store.old }
     requires open { (S.store_view store.old).closed ≡ false }
     requires writable { (S.constants store.old).writable ≡ true }
