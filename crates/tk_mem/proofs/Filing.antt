@@ -13,7 +13,7 @@ use Rattle.tk_model.specs.declared.record.Pair.{Pair}
 use Rattle.tk_model.specs.declared.record.ShardOf.{ShardOf}
 use Rattle.tk_model.proofs.KeyOrders.{keys_total}
 use Rattle.tk_model.proofs.RecordTexts.{length-record, record_same}
-use Rattle.tk_flat.specs.Flat.{IsFlat, flat_text, flat_word}
+use Rattle.tk_flat.specs.Flat.{IsFlat, BeginsWithNone, flat_text, flat_word}
 use Rattle.tk_mem.specs.TinyFile.{AllInShard, AreFiled, NoneFollows}
 use Rattle.tk_mem.specs.Loading.{EndsWith}
 use Rattle.tk_mem.specs.Undo.{records_size, text_size}
@@ -22,15 +22,15 @@ use Rattle.tk_mem.specs.Undo.{records_size, text_size}
 
 held_more : (ps : List Pair) (p : Pair) → AllHeld ps → IsFlat p → AllHeld (ps ++ p ∷ [])
 held_more [] p held flat = (flat.key_fits, flat.value_fits, tt)
-held_more (q ∷ qs) p held flat = (held.0, held.1.0, held_more qs p held.1.1 flat)
+held_more (q ∷ qs) p held flat = (held.0, held.1, held_more qs p held.2 flat)
 
 pub held_last : (ps : List Pair) (p : Pair) → AllHeld (ps ++ p ∷ []) → IsFlat p
-held_last [] p held = record { key_fits = held.0; value_fits = held.1.0 }
-held_last (q ∷ qs) p held = held_last qs p held.1.1
+held_last [] p held = record { key_fits = held.0; value_fits = held.1 }
+held_last (q ∷ qs) p held = held_last qs p held.2
 
 held_front : (ps qs : List Pair) → AllHeld (ps ++ qs) → AllHeld ps
 held_front [] qs held = tt
-held_front (p ∷ ps) qs held = (held.0, held.1.0, held_front ps qs held.1.1)
+held_front (p ∷ ps) qs held = (held.0, held.1, held_front ps qs held.2)
 
 behind_more : (k : List ℕ) (ps : List Pair) (p : Pair) → AllBehind Hash k ps → key_cmp Hash k p.key ≡ Less → AllBehind Hash k (ps ++ p ∷ [])
 behind_more k [] p all last = (last, tt)
@@ -56,7 +56,7 @@ before_next k q (r ∷ rs) last p all ends less = before_next k r rs last p all.
 rising_more : (ps : List Pair) (last : List ℕ) (p : Pair) → Rising Hash ps → EndsWith ps last → (ps ≡ []) ⊎ (key_cmp Hash last p.key ≡ Less) → Rising Hash (ps ++ p ∷ [])
 rising_more [] last p rising ends less = (tt, tt)
 rising_more (q ∷ qs) last p rising ends (inl none) = absurd (cc)
-rising_more (q ∷ []) last p rising ends (inr less) = ((subst (λ (j : List ℕ). key_cmp Hash j p.key ≡ Less) (sym ends) less, tt), tt, tt)
+rising_more (q ∷ []) last p rising ends (inr less) = ((subst (λ (j : List ℕ). key_cmp Hash j p.key ≡ Less) (sym ends) less, tt), (tt, tt))
 rising_more (q ∷ r ∷ rs) last p rising ends (inr less) =
     (behind_more q.key (r ∷ rs) p rising.0 (before_next q.key r rs last p rising.0 ends less), rising_more (r ∷ rs) last p rising.1 ends (inr less))
 
@@ -111,7 +111,7 @@ unfolding flat_text
 length-flat_text ps = omega (arith, length-append flat_word (flat_map record_text ps), length-records ps)
 
 size_more : (ps qs : List Pair) → records_size (ps ++ qs) ≡ records_size ps + records_size qs
-size_more [] qs = refl
+size_more [] qs = omega arith
 size_more (p ∷ ps) qs = omega (arith, size_more ps qs)
 
 pub text_size_more : (ps qs : List Pair) → text_size (ps ++ qs) ≡ text_size ps + records_size qs
@@ -169,3 +169,15 @@ module _ (shard : ShardOf) where
   text_same ps qs x y fp fq nx ny same =
       walk_same [] ps qs x y fp fq nx ny
       (sym (drop_at flat_word (flat_map record_text ps ++ x) 8 refl) ∙ ap (drop 8) (sym (begins_word ps x) ∙ same ∙ begins_word qs y) ∙ drop_at flat_word (flat_map record_text qs ++ y) 8 refl)
+
+-- no record begins, so none follows
+pub none_begins : (shard : ShardOf) (ps : List Pair) (text : List ℕ) → BeginsWithNone text → NoneFollows shard ps text
+none_begins shard ps text none p behind begins filed = none p behind (held_last ps p filed.held) begins
+
+-- the record that begins may not follow, and it is the only one there
+pub none_other : (shard : ShardOf) (ps : List Pair) (last text : List ℕ) (q : Pair) (rest : List ℕ) → EndsWith ps last → BeginsWith text q rest
+    → ((ps ≡ []) ⊎ (key_cmp Hash last q.key ≡ Less) → holds_key shard q.key ≡ true → ⊥) → NoneFollows shard ps text
+none_other shard ps last text q rest ends here may p behind begins filed =
+    let same : p ≡ q = (record_same p q behind rest begins.fits here.fits (sym begins.spelled ∙ here.spelled)).0 in
+    let follows = filed_last shard ps last q ends (subst (λ (r : Pair). AreFiled shard (ps ++ r ∷ [])) same filed) in
+    may follows.0 follows.1

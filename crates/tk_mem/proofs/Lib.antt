@@ -4,3 +4,5 @@ pub mod Standing
 pub mod Filing
 pub mod Openings
 pub mod Written
+pub mod Readings
+pub mod Stored

@@ -2,7 +2,10 @@
 use Rattle.std.specs.Prelude.{◌≡◌, ◌⊎◌, ℕ, ◌≤◌, List, [], ◌∷◌, ◌++◌, length, drop, Option, IfSome}
 use Rattle.std.specs.List.{flat_map}
 use Rattle.tk_flat.specs.Flat.{flat_text}
+use Rattle.std.specs.declared.cmp.Ordering.TheVariants.{Less}
+use Rattle.tk_model.specs.Orders.{key_cmp}
 use Rattle.tk_model.specs.RecordText.{record_text}
+use Rattle.tk_model.specs.declared.record.Order.TheVariants.{Hash}
 use Rattle.tk_model.specs.declared.record.Pair.{Pair}
 use Rattle.tk_model.specs.declared.record.ShardOf.{ShardOf}
 use Rattle.tk_mem.specs.TinyFile.{AreFiled, NoneFollows}
@@ -14,6 +17,10 @@ abbrev pub EndsWith : List Pair → (key : List ℕ) → Type 0
 EndsWith [] key = Unit {0}
 EndsWith (p ∷ []) key = p.key ≡ key
 EndsWith (p ∷ q ∷ ps) key = EndsWith (q ∷ ps) key
+
+-- this key comes behind those of the records
+abbrev pub ComesNext : Loading → (key : List ℕ) → Type 0
+ComesNext l key = (l.records ≡ []) ⊎ (key_cmp Hash l.last key ≡ Less)
 
 -- the records that were read, and the last of their keys
 pub record IsLoaded (shard : ShardOf) (l : Loading) : Type 0 where

@@ -1,5 +1,5 @@
 -- Records in memory with a file as a store.
-use Rattle.std.specs.Prelude.{◌≡◌, ◌⊎◌, ℕ, ◌≤◌, ◌^◌, Bool, false, List, [], length, Option, Some, None, IfSome, if◌then◌else◌}
+use Rattle.std.specs.Prelude.{◌≡◌, ◌⊎◌, ℕ, ◌≤◌, ◌^◌, Bool, true, false, List, [], Option, Some, None, IfSome}
 use Rattle.tk_disk.specs.Crash.{Only}
 use Rattle.tk_flat.specs.Flat.{flat_text}
 use Rattle.tk_model.specs.Records.{after, replay}
@@ -10,6 +10,8 @@ use Rattle.tk_model.specs.declared.record.Change.{Change}
 use Rattle.tk_store.specs.Store.{StoreConstants, StoreView, First, Records}
 use Rattle.tk_mem.specs.Undo.{text_size}
 use Rattle.tk_mem.specs.Tiny.{TinyReserved, TinyStands, tiny_constants, tiny_view}
+use Rattle.tk_mem.specs.declared.tiny_store.Stage.{Stage}
+use Rattle.tk_mem.specs.declared.tiny_store.Stage.TheVariants.{Running, Closed, Ended}
 use Rattle.tk_mem.specs.declared.tiny_store.TinyStore.{TinyStore}
 
 -- the file of records at an opening: a new one is empty
@@ -26,6 +28,17 @@ HoldsText image may_leave None first now disk = IfSome (image disk) (IsOpeningOf
 HoldsText image may_leave (Some next) first now disk =
     IfSome (image disk) (λ f. f ≡ flat_text now) × (FitsFile now → IfSome (image disk) (λ f. Only f (may_leave disk)))
 
+abbrev pub is_closed : Stage → Bool
+is_closed Running = false
+is_closed Closed = true
+is_closed (Ended next) = true
+
+-- the next number that the file was ended with
+abbrev pub ended_in : Stage → Option ℕ
+ended_in Running = None
+ended_in Closed = None
+ended_in (Ended next) = Some next
+
 module _ {D : Type 0} where
   -- the names that contracts call its parts
   abbrev pub stored_disk : TinyStore D → D
@@ -37,18 +50,14 @@ module _ {D : Type 0} where
   abbrev pub stored_constants : TinyStore D → StoreConstants
   stored_constants s = tiny_constants s.records
 
-  -- the next number that the file was ended with
-  abbrev pub stored_ended : TinyStore D → Option ℕ
-  stored_ended s = if s.closed then s.ended else None
-
   abbrev pub stored_view : TinyStore D → StoreView
   stored_view s = record {
     map = (tiny_view s.records).map;
     size = (tiny_view s.records).size;
     floor = (tiny_view s.records).floor;
     held_back = false;
-    closed = s.closed;
-    ended = stored_ended s;
+    closed = is_closed s.stage;
+    ended = ended_in s.stage;
     cost = λ k. None;
     needs = (tiny_view s.records).needs;
     log_size = 0;
@@ -65,10 +74,10 @@ module _ {D : Type 0} where
 
   pub record StoredStands (image : D → Option (List ℕ)) (may_leave : D → List ℕ → Type 0) (s : TinyStore D) (first : First) (since : List Group) (hard : ℕ) : Type 0 where
     pub records : TinyStands s.records first since hard
-    pub open : s.records.closed ≡ false
+    pub unclosed : s.records.closed ≡ false
     -- where the records don't fit a file, no change was made
     pub fits : (since ≡ []) ⊎ FitsFile (replay Hash since first.records)
-    pub file : HoldsText image may_leave (stored_ended s) first.records (replay Hash since first.records) s.disk
+    pub file : HoldsText image may_leave (ended_in s.stage) first.records (replay Hash since first.records) s.disk
 
   -- nothing was written from one state to another
   abbrev pub StoredUntouched : TinyStore D → TinyStore D → Type 0

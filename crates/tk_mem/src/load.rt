@@ -1,6 +1,5 @@
 //! Reading the file of a store.
 ghost use Rattle.std.specs.Prelude.{◌≡◌, ◌≢◌, ◌⊎◌, ◌≤◌, ◌<◌, ◌+◌, ◌∷◌, ◌++◌, ℕ, List, [], length, drop, true, false, IfOk, IfErr, IfSome, IfNone, OnOk, OnErr, Err};
-ghost use Rattle.std.specs.Ordering.{is_lt};
 ghost use Rattle.tk_flat.specs.Flat.{flat_word, IsFlat};
 ghost use Rattle.tk_model.specs.Counts.{HasCause};
 ghost use Rattle.tk_model.specs.RecordText.{BeginsWith, pair_here};
@@ -9,7 +8,8 @@ ghost use Rattle.tk_model.specs.declared.record.Pair.{Pair as OneRecord};
 ghost use Rattle.tk_model.specs.Records.{Rising, AllHeld};
 ghost use Rattle.tk_model.specs.declared.record.Order.TheVariants.{Hash};
 ghost use Rattle.tk_mem.specs.TinyFile.{AreFiled, FailsAt, NoneFollows, IsAccepted, IsCause, IsOutside};
-ghost use Rattle.tk_mem.specs.Loading.{IsLoaded, Takes, IsReadTo};
+ghost use Rattle.tk_mem.specs.Loading.{ComesNext, IsLoaded, Takes, IsReadTo};
+ghost use Rattle.tk_model.specs.Entries.{holds_key};
 ghost use Rattle.tk_mem.specs.Undo.{text_size};
 
 use std::alloc::Global;
@@ -44,6 +44,14 @@ fn as_open_error<T>(answer: Result<T, DiskError>) -> Result<T, OpenError>
     }
 }
 
+/// The key is of the shard.
+fn is_of(key: &[u8], of: ShardOf) -> bool
+    requires { of.index < of.of }
+    ensures { result ≡ holds_key of key.now }
+{
+    shard(mix(key), of.of) == of.index
+}
+
 impl Loading {
     fn new(alloc: Global) -> Result<Loading, NoMemory>
         ensures { IfOk result (λ l. l.records ≡ []) }
@@ -54,17 +62,22 @@ impl Loading {
         })
     }
 
+    /// The key comes behind the last.
+    fn is_behind(&self, key: &[u8]) -> bool
+        ensures yes { result ≡ true → ComesNext self.now key.now }
+        ensures no { result ≡ false → ComesNext self.now key.now → ⊥ }
+    {
+        self.records.is_empty() || before(&Order::Hash, self.last.as_slice(), key)
+    }
+
     /// A record with this key may follow.
     fn may_follow(&self, key: &[u8], of: ShardOf) -> bool
-        requires loaded { IsLoaded of self.now }
-        requires shard { of.index < of.of }
-        ensures yes { (p : OneRecord) → p.key ≡ key.now → IsFlat p → result ≡ true
-            → AreFiled of (self.now.records ++ p ∷ []) }
-        ensures no { (p : OneRecord) → p.key ≡ key.now → result ≡ false
-            → AreFiled of (self.now.records ++ p ∷ []) → ⊥ }
+        requires { of.index < of.of }
+        ensures yes { result ≡ true → ComesNext self.now key.now × (holds_key of key.now ≡ true) }
+        ensures no { result ≡ false → ComesNext self.now key.now → holds_key of key.now ≡ true
+            → ⊥ }
     {
-        let rises = self.records.is_empty() || before(&Order::Hash, self.last.as_slice(), key);
-        rises && shard(mix(key), of.of) == of.index
+        self.is_behind(key) && is_of(key, of)
     }
 
     /// The record at the front, where it may follow.
@@ -75,7 +88,9 @@ impl Loading {
         ensures filed { IfSome result (λ r. AreFiled of (self.now.records ++ pair_here r ∷ [])) }
         ensures none { IfNone result (NoneFollows of self.now.records bytes.now) }
     {
-        let here = flat_record(bytes)?;
+        let Some(here) = flat_record(bytes) else {
+            return None;
+        };
         if self.may_follow(here.key, of) {
             Some(here)
         } else {
@@ -88,14 +103,15 @@ impl Loading {
         requires { Rising Hash (self.old.records ++ pair_here here.now ∷ []) }
         ensures records { OnOk result (self.new.records ≡ self.old.records ++ pair_here here.now
             ∷ []) }
-        ensures last { OnOk result (self.new.last ≡ here.key.now) }
+        ensures last { OnOk result (self.new.last ≡ here.now.key.now) }
     {
         let key = Bytes::from_slice(alloc, here.key)?;
         let value = Bytes::from_slice(alloc, here.value)?;
         self.last.clear();
         self.last.extend(here.key)?;
         self.records.widen()?;
-        self.records.put(Pair { key, value })
+        self.records.put(Pair { key, value })?;
+        Ok(())
     }
 
     /// Takes the records that stand whole at the front, and answers how many bytes they are.

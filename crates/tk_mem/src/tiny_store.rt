@@ -19,14 +19,22 @@ use tk_store::{SeqStore, StoreError};
 /// The longest file.
 const LIMIT: u64 = 1 << 40;
 
+/// How far a store has come.
+#[derive(Clone, Copy)]
+pub(crate) enum Stage {
+    Running,
+    Closed,
+    /// The file was written, with this next number.
+    Ended(u64),
+}
+
 /// A store that keeps its records in memory, and in a file from its closing to its next opening.
 #[derive(Drop)]
 pub struct TinyStore<D: Disk> {
     alloc: Global,
     disk: D,
     records: TinyRecords,
-    closed: bool,
-    ended: Option<u64>,
+    stage: Stage,
 }
 
 impl<D: Disk> TinyStore<D> {
@@ -76,8 +84,7 @@ impl<D: Disk> TinyStore<D> {
                 alloc,
                 disk,
                 records: TinyRecords::of(alloc, records, size, writable, limit),
-                closed: false,
-                ended: None,
+                stage: Stage::Running,
             }),
             Err(cause) => Err(Unopened { cause, disk }),
         }
@@ -91,8 +98,7 @@ impl<D: Disk> TinyStore<D> {
             disk,
             alloc: _,
             records: _,
-            closed: _,
-            ended: _,
+            stage: _,
         } = self;
         disk
     }
@@ -114,8 +120,7 @@ impl<D: Disk> TinyStore<D> {
         ensures store_view { tiny_view self.new.records ≡ tiny_view self.old.records }
         ensures constants { tiny_constants self.new.records ≡ tiny_constants self.old.records }
         ensures stands { Keeps TinyStands self.old.records self.new.records }
-        ensures closed { self.new.closed ≡ self.old.closed }
-        ensures ended { self.new.ended ≡ self.old.ended }
+        ensures stage { self.new.stage ≡ self.old.stage }
         // the counts
         ensures taken { D.taken_count (stored_disk self.new)
             ≡ D.taken_count (stored_disk self.old) }
@@ -131,10 +136,11 @@ impl<D: Disk> TinyStore<D> {
     }
 }
 
+#[tactic(auto, using(crate::proofs::Stored::inside, crate::proofs::Stored::open_inside, crate::proofs::Stored::looked, crate::proofs::Stored::running))]
 impl<D: Disk> SeqStore for TinyStore<D> {
     ghost use Rattle.std.specs.Prelude.{true, Bool};
     ghost use Rattle.tk_mem.specs.TinyStored.{stored_disk, stored_constants, stored_view, StoredReserved, StoredStands, StoredUntouched};
-    ghost use Rattle.tk_mem.specs.TinyStoredLaws.{stored_replays, stored_rising, stored_held, stored_by_extents, stored_unended, stored_values};
+    ghost use Rattle.tk_mem.specs.TinyStoredLaws.{stored_replays, stored_rising, stored_held, stored_by_extents, stored_unended, stored_values, stored_untouched_same, stored_untouched_then};
 
     ghost constants = { stored_constants };
 
@@ -182,9 +188,9 @@ impl<D: Disk> SeqStore for TinyStore<D> {
 
     ghost values = { stored_values };
 
-    ghost untouched_same = { λ s. refl };
+    ghost untouched_same = { stored_untouched_same };
 
-    ghost untouched_then = { λ a b c p q. Prim.cc };
+    ghost untouched_then = { stored_untouched_then };
 
     ghost tells_need = { λ s changes told. Prim.cc };
 
@@ -243,7 +249,8 @@ impl<D: Disk> SeqStore for TinyStore<D> {
     }
 
     fn apply_reserved(&mut self, number: u64) -> Result<(), StoreError> {
-        self.records.apply_reserved(number)
+        self.records.apply_reserved(number)?;
+        Ok(())
     }
 
     fn sync(&mut self, hard: bool) -> Result<(), StoreError> {
@@ -251,10 +258,10 @@ impl<D: Disk> SeqStore for TinyStore<D> {
     }
 
     fn close(&mut self, next: u64) -> Result<(), StoreError> {
-        self.closed = true;
+        self.stage = Stage::Closed;
         if self.records.writable() {
             self.write_file()?;
-            self.ended = Some(next);
+            self.stage = Stage::Ended(next);
         }
         Ok(())
     }

@@ -1,5 +1,5 @@
 //! Writing the flat text of records, in pieces.
-ghost use Rattle.std.specs.Prelude.{◌≡◌, ◌≤◌, ◌+◌, ◌^◌, ◌++◌, length, IfSome, OnOk};
+ghost use Rattle.std.specs.Prelude.{◌≡◌, ◌≤◌, ◌+◌, ◌^◌, ◌++◌, length, IfOk, IfSome, OnOk};
 ghost use Rattle.std.specs.Option.{is_some, option_map};
 ghost use Rattle.tk_disk.specs.Crash.{Only};
 ghost use Rattle.tk_flat.specs.Flat.{flat_text};
@@ -10,7 +10,7 @@ ghost use Rattle.tk_store.specs.Store.{HasCause as StoreHasCause, NeverFull, OnN
 ghost use Rattle.tk_mem.specs.Undo.{text_size};
 
 use std::alloc::Global;
-use tk_disk::{Disk, DiskError};
+use tk_disk::{Disk, DiskError, zeros};
 use tk_model::{Bytes, NoMemory, Pair};
 use tk_store::{PairsLeft, StoreError};
 
@@ -26,6 +26,7 @@ pub(crate) struct Pieces {
     used: usize,
     place: u64,
     ghost within: { used ≤ length buffer },
+    ghost room: { length buffer ≤ 2 ^ 20 },
 }
 
 #[tactic(auto, using(crate::proofs::Written::lengths_told))]
@@ -36,6 +37,12 @@ fn lengths_of(pair: &Pair) -> [u8; 6]
     let k = (pair.key.len() as u16).to_be_bytes();
     let v = (pair.value.len() as u32).to_be_bytes();
     [k[0], k[1], v[0], v[1], v[2], v[3]]
+}
+
+fn zeros_of(alloc: Global, len: usize) -> Result<Bytes, NoMemory>
+    ensures { IfOk result (λ b. length b ≡ len) }
+{
+    Ok(Bytes::from_vec(zeros(alloc, len)?))
 }
 
 impl Pieces {
@@ -53,10 +60,8 @@ impl Pieces {
         ensures used { IfOk result (λ p. p.used ≡ 0) }
         ensures place { IfOk result (λ p. p.place ≡ 0) }
     {
-        let mut buffer = Bytes::with_capacity(alloc, PIECE)?;
-        buffer.extend_zeros(PIECE)?;
         Ok(Pieces {
-            buffer,
+            buffer: zeros_of(alloc, PIECE)?,
             used: 0,
             place: 0,
         })
@@ -146,7 +151,8 @@ impl Pieces {
     {
         self.put(disk, &lengths_of(pair))?;
         self.put(disk, pair.key.as_slice())?;
-        self.put(disk, pair.value.as_slice())
+        self.put(disk, pair.value.as_slice())?;
+        Ok(())
     }
 
     /// Puts the texts of records behind the others.
@@ -159,9 +165,9 @@ impl Pieces {
         requires here { IfSome (D.image disk.old) (λ f. length f ≡ self.old.place) }
         requires end { self.old.place + self.old.used + records_size (pairs_left left) ≤ 2 ^ 40 }
         ensures text { OnOk result (text_so_far (D.image disk.new) self.new ≡ with_more
-            (flat_map record_text (pairs_left left)) (text_so_far (D.image disk.old) self.old)) }
+            (flat_map record_text (pairs_left left.entry)) (text_so_far (D.image disk.old) self.old)) }
         ensures here { OnOk result (IfSome (D.image disk.new) (λ f. length f ≡ self.new.place)) }
-        ensures end { OnOk result (self.new.place + self.new.used ≡ self.old.place + self.old.used + records_size (pairs_left left)) }
+        ensures end { OnOk result (self.new.place + self.new.used ≡ self.old.place + self.old.used + records_size (pairs_left left.entry)) }
         ensures told { is_some (D.image disk.new) ≡ is_some (D.image disk.old) }
         ensures taken { D.taken_count disk.new ≡ D.taken_count disk.old }
         ensures cause { HasCause (D.fault_count disk.old) (D.fault_count disk.new) result }
@@ -181,7 +187,7 @@ impl Pieces {
         requires held { AllHeld (pairs_left left) }
         requires end { text_size (pairs_left left) ≤ 2 ^ 40 }
         ensures written { OnOk result (D.image disk.new ≡ option_map
-            (λ _. flat_text (pairs_left left)) (D.image disk.old)) }
+            (λ _. flat_text (pairs_left left.entry)) (D.image disk.old)) }
         ensures durable { OnOk result (IfSome (D.image disk.new)
             (λ f. Only f (D.may_leave disk.new))) }
         ensures told { is_some (D.image disk.new) ≡ is_some (D.image disk.old) }
@@ -192,7 +198,8 @@ impl Pieces {
         self.put(disk, &WORD)?;
         self.put_records(disk, left)?;
         self.flush(disk)?;
-        disk.sync(true)
+        disk.sync(true)?;
+        Ok(())
     }
 }
 
@@ -204,7 +211,7 @@ pub(crate) fn write_text<D: Disk>(
 ) -> Result<(), StoreError>
     requires held { AllHeld (pairs_left left) }
     requires end { text_size (pairs_left left) ≤ 2 ^ 40 }
-    ensures written { OnOk result (D.image disk.new ≡ option_map (λ _. flat_text (pairs_left left))
+    ensures written { OnOk result (D.image disk.new ≡ option_map (λ _. flat_text (pairs_left left.entry))
         (D.image disk.old)) }
     ensures durable { OnOk result (IfSome (D.image disk.new) (λ f. Only f (D.may_leave disk.new))) }
     ensures unwritten { OnNoMemory result (disk.new ≡ disk.old) }
