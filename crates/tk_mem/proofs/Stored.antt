@@ -95,6 +95,7 @@ module _ {D : Type 0} (image : D → Option (List ℕ)) (may_leave : D → List 
     where
       with_stage : Stage → StoreView → StoreView
       with_stage g v = record { map = v.map; size = v.size; floor = v.floor; held_back = false; closed = is_closed g; ended = ended_in g; cost = λ k. None; needs = v.needs; log_size = 0 }
+
       same_view : (s t : TinyStore D) → tiny_view t.records ≡ tiny_view s.records → t.stage ≡ s.stage → stored_view t ≡ stored_view s
       same_view s t view stage = ap (λ (v : StoreView). with_stage t.stage v) view ∙ ap (λ (g : Stage). with_stage g (tiny_view s.records)) stage
 
@@ -183,13 +184,17 @@ module _ {D : Type 0} (image : D → Option (List ℕ)) (may_leave : D → List 
     where
       now : List Pair
       now = replay Hash since first.records
+
       same : s.records.map.pairs ≡ now
       same = st.records.map
+
       fitted : FitsFile now → IfSome (image t.disk) (λ f. f ≡ flat_text now)
       fitted fits = subst (λ (l : List Pair). IfSome (image t.disk) (λ f. f ≡ flat_text l)) same (written_file (image s.disk) (image t.disk) (flat_text s.records.map.pairs) (written (subst FitsFile (sym same) fits)))
+
       none_made : (FitsFile now → ⊥) → (since ≡ []) ⊎ FitsFile now → since ≡ []
       none_made over (inl none) = none
       none_made over (inr fits) = absurd (over fits)
+
       kept_file : (FitsFile now → ⊥) → IfSome (image t.disk) (λ f. f ≡ flat_text now)
       kept_file over =
           let none : since ≡ [] = none_made over st.fits in
@@ -197,6 +202,7 @@ module _ {D : Type 0} (image : D → Option (List ℕ)) (may_leave : D → List 
           let opening : IfSome (image s.disk) (IsOpeningOf first.records) = subst (λ (g : Stage). HoldsText image may_leave (ended_in g) first.records now s.disk) was st.file in
           long_file now (image t.disk) over
           (subst (λ (d : D). IfSome (image d) (IsOpeningOf now)) (sym (long (λ fits. over (subst FitsFile same fits)))) (subst (λ (l : List Pair). IfSome (image s.disk) (IsOpeningOf l)) (sym first_is) opening))
+
       by : (2 ^ 40 < text_size now) ⊎ (text_size now ≤ 2 ^ 40) → IfSome (image t.disk) (λ f. f ≡ flat_text now)
       by (inl over) = kept_file (λ fits. omega (arith, over, fits))
       by (inr fits) = fitted fits

@@ -103,6 +103,7 @@ all_put ps word w v old cut put more last is none left cuts one two three = by o
   where
     some_same : (x y : List ℕ) → Some x ≡ Some y → x ≡ y
     some_same x y e = cc
+
     by : (old last : Option (List ℕ)) → option_map (λ (f : List ℕ). f ++ v) last ≡ with_more (flat_map record_text ps) (with_more word (option_map (λ (f : List ℕ). f ++ w) (option_map (take 0) old)))
         → last ≡ option_map (λ _. flat_text ps) old
     by None None e = refl

@@ -95,7 +95,10 @@ fn refused_at_each_record(rt: HostRuntime) -> Result<(), Fail> {
             9..17 => Some(OpenError::BrokenAt(8)),
             _ => Some(OpenError::BrokenAt(17)),
         };
-        assert!(rt; refusal(alloc, &TWO[..end], true, ALONE)? == cause, "cut at {end}");
+        assert!(rt;
+            refusal(alloc, &TWO[..end], true, ALONE)? == cause,
+            "cut at {end}"
+        );
     }
     assert!(rt; refusal(alloc, b"", false, ALONE)? == Some(OpenError::NotADatabase));
     let mut turned = TWO;
@@ -131,7 +134,10 @@ fn failing_disks(rt: HostRuntime) -> Result<(), Fail> {
         assert!(rt; matches!(loaded(alloc, &TWO, &[call]), Err(OpenError::Fault)));
     }
     for call in 3..6 {
-        assert!(rt; closing(alloc, call)? == Err(StoreError::Fault), "call {call}");
+        assert!(rt;
+            closing(alloc, call)? == Err(StoreError::Fault),
+            "call {call}"
+        );
     }
     assert!(rt; closing(alloc, 6)? == Ok(()));
     Ok(())

@@ -65,7 +65,11 @@ fn dropping(alloc: Global, key: &[u8]) -> Result<ChangeList, NoMemory>
 }
 
 /// Makes a group, and answers what it needed.
-pub(crate) fn apply<S: SeqStore>(store: &mut S, number: u64, changes: &ChangeList) -> Result<u64, StoreError>
+pub(crate) fn apply<S: SeqStore>(
+    store: &mut S,
+    number: u64,
+    changes: &ChangeList,
+) -> Result<u64, StoreError>
     requires whole { IsWhole S.stands store.old }
     requires open { (S.store_view store.old).closed ≡ false }
     requires writable { (S.constants store.old).writable ≡ true }

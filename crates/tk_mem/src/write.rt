@@ -156,11 +156,7 @@ impl Pieces {
     }
 
     /// Puts the texts of records behind the others.
-    fn put_records<D: Disk>(
-        &mut self,
-        disk: &mut D,
-        left: PairsLeft<'_>,
-    ) -> Result<(), DiskError>
+    fn put_records<D: Disk>(&mut self, disk: &mut D, left: PairsLeft<'_>) -> Result<(), DiskError>
         requires held { AllHeld (pairs_left left) }
         requires here { IfSome (D.image disk.old) (λ f. length f ≡ self.old.place) }
         requires end { self.old.place + self.old.used + records_size (pairs_left left) ≤ 2 ^ 40 }
