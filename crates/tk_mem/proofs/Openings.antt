@@ -1,5 +1,5 @@
 -- What an opening accepts it never refuses, and a file fails at one place.
-use Rattle.std.proofs.Common.{◌≡◌, ◌≢◌, ◌⊎◌, inl, inr, ℕ, ◌+◌, ◌<◌, ◌≤◌, Bool, true, List, [], ◌∷◌, ◌++◌, length, refl, sym, ap, subst, ◌∙◌, length-append, arith, Result, Ok, Err, IfOk, IfErr}
+use Rattle.std.proofs.Common.{◌≡◌, ◌≢◌, ◌⊎◌, inl, inr, ℕ, Bool, List, [], ◌++◌, length, refl, sym, ap, ◌∙◌, length-append, arith}
 use Rattle.std.specs.List.{flat_map}
 use Rattle.std.proofs.lemmas.List.{append-nil}
 use Rattle.tk_model.specs.RecordText.{record_text}
@@ -7,9 +7,8 @@ use Rattle.tk_model.specs.declared.record.Pair.{Pair}
 use Rattle.tk_model.specs.declared.record.ShardOf.{ShardOf}
 use Rattle.tk_model.specs.declared.error.OpenError.{OpenError}
 use Rattle.tk_model.specs.declared.error.OpenError.TheVariants as errors
-use Rattle.tk_model.specs.declared.error.Unopened.{Unopened}
-use Rattle.tk_flat.specs.Flat.{flat_text, flat_word}
-use Rattle.tk_mem.specs.TinyFile.{AreFiled, IsFileOf, FailsAfter, FailsAt, IsNew, IsAccepted, IsNoText, IsCause, IsOutside, Refuses}
+use Rattle.tk_flat.specs.Flat.{flat_text}
+use Rattle.tk_mem.specs.TinyFile.{IsFileOf, FailsAt, IsAccepted, IsNoText, IsCause, IsOutside}
 use Rattle.tk_mem.proofs.Filing.{begins_word, length-flat_text, none_in_nothing, text_same}
 
 module _ (shard : ShardOf) (writable : Bool) (f : List ℕ) where

@@ -1,9 +1,9 @@
 -- How a file is read piece by piece.
-use Rattle.std.proofs.Common.{◌≡◌, ◌≢◌, ◌⊎◌, inl, inr, ℕ, ◌+◌, ◌-◌, ◌<◌, ◌≤◌, List, [], ◌∷◌, ◌++◌, length, take, drop, refl, sym, ap, subst, ◌∙◌, append_assoc, length-append, length-drop, arith}
-use Rattle.std.specs.Prelude.{Bool, true, Option, Some, None, IfSome, min, Result, Ok, Err, IfOk, OnErr}
+use Rattle.std.proofs.Common.{◌≡◌, ◌⊎◌, inl, inr, ℕ, ◌+◌, ◌-◌, ◌≤◌, List, [], ◌∷◌, ◌++◌, length, take, drop, refl, sym, ap, subst, ◌∙◌, append_assoc, length-append, length-drop, arith}
+use Rattle.std.specs.Prelude.{Bool, true, Option, Some, None, IfSome, Result, Ok, Err, IfOk, OnErr}
 use Rattle.std.proofs.lemmas.Bool.{cases_lt}
 use Rattle.std.specs.List.{flat_map}
-use Rattle.std.proofs.lemmas.List.{append-nil, take_at, drop_at, drop-drop, drop_all, take-append-drop, length-take-le}
+use Rattle.std.proofs.lemmas.List.{append-nil, take_at, drop_at, drop-drop, drop_all, take-append-drop}
 use Rattle.std.proofs.lemmas.Grind.{flat_map-append}
 use Rattle.std.proofs.Math.Seq.{take-add}
 use Rattle.tk_disk.specs.Disk.{ReadsFrom}
@@ -15,10 +15,10 @@ use Rattle.tk_model.specs.declared.record.Pair.{Pair}
 use Rattle.tk_model.specs.declared.record.ShardOf.{ShardOf}
 use Rattle.tk_model.proofs.RecordTexts.{length-record}
 use Rattle.tk_flat.specs.Flat.{flat_text, flat_word}
-use Rattle.tk_mem.specs.TinyFile.{AreFiled, NoneFollows, IsFileOf, IsAccepted}
+use Rattle.tk_mem.specs.TinyFile.{AreFiled, NoneFollows, IsAccepted}
 use Rattle.tk_mem.specs.Loading.{Takes, IsReadTo}
-use Rattle.tk_mem.specs.Undo.{records_size, text_size}
-use Rattle.tk_mem.proofs.Filing.{held_last, length-records, length-flat_text, text_size_more, flat_text_more, flat_none}
+use Rattle.tk_mem.specs.Undo.{text_size}
+use Rattle.tk_mem.proofs.Filing.{held_last, length-records, text_size_more, flat_text_more, flat_none}
 
 -- records were taken, and the rest follows
 pub record Taken (old new : List Pair) (bytes rest : List ℕ) : Type 0 where

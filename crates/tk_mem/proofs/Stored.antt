@@ -1,6 +1,6 @@
 -- How records in memory with a file go on as a store.
 use Rattle.std.proofs.Common.{◌≡◌, ◌⊎◌, inl, inr, ℕ, ◌+◌, ◌-◌, ◌<◌, ◌≤◌, ◌^◌, min, Bool, true, false, List, [], ◌∷◌, ◌++◌, length, refl, sym, ap, subst, ◌∙◌, arith}
-use Rattle.std.specs.Prelude.{Option, Some, None, IfSome, if◌then◌else◌, nat_lt, ◌&&◌, not, ◌==◌}
+use Rattle.std.specs.Prelude.{Option, Some, None, IfSome, nat_lt, ◌&&◌, not, ◌==◌}
 use Rattle.std.specs.Option.{option_map}
 use Rattle.std.proofs.lemmas.List.{append-nil}
 use Rattle.std.proofs.lemmas.Bool.{cases_lt}
@@ -13,10 +13,10 @@ use Rattle.tk_model.specs.declared.record.Pair.{Pair}
 use Rattle.tk_model.specs.declared.record.Group.{Group}
 use Rattle.tk_model.specs.declared.record.Change.{Change}
 use Rattle.tk_model.specs.declared.record.ShardOf.{ShardOf}
-use Rattle.tk_store.specs.Store.{StoreView, StoreConstants, First, Records, HasRoom, IsWhole, Keeps, OnlyLooks, groups_made_by, is_empty, is_over, ended_by}
+use Rattle.tk_store.specs.Store.{StoreView, First, Records, HasRoom, IsWhole, Keeps, OnlyLooks, groups_made_by, is_over}
 use Rattle.tk_store.proofs.Mem.{replay_more}
-use Rattle.tk_mem.specs.Undo.{records_size, text_size}
-use Rattle.tk_mem.specs.Tiny.{TinyReserved, TinyStands, tiny_constants, tiny_view}
+use Rattle.tk_mem.specs.Undo.{text_size}
+use Rattle.tk_mem.specs.Tiny.{TinyStands, tiny_constants, tiny_view}
 use Rattle.tk_mem.specs.TinyFile.{IsAccepted}
 use Rattle.tk_mem.specs.TinyStored.{stored_disk, stored_constants, stored_view, opening_of, is_closed, ended_in, IsOpeningOf, FitsFile, HoldsText, StoredReserved, StoredStands, StoredUntouched}
 use Rattle.tk_mem.specs.declared.tiny_records.TinyRecords.{TinyRecords}

@@ -8,7 +8,7 @@ use Rattle.tk_model.specs.RecordText.{record_text}
 use Rattle.tk_model.specs.declared.record.Order.TheVariants.{Hash}
 use Rattle.tk_model.specs.declared.record.Pair.{Pair}
 use Rattle.tk_model.specs.declared.record.ShardOf.{ShardOf}
-use Rattle.tk_mem.specs.TinyFile.{AreFiled, NoneFollows}
+use Rattle.tk_mem.specs.TinyFile.{AreFiled}
 use Rattle.tk_mem.specs.Undo.{text_size}
 use Rattle.tk_mem.specs.declared.load.Loading.{Loading}
 

@@ -1,10 +1,10 @@
 -- The laws of records in memory with a file as a store.
-use Rattle.std.specs.Prelude.{◌≡◌, ℕ, ◌≤◌, List, length, Option, IfSome, Some, None, false}
+use Rattle.std.specs.Prelude.{◌≡◌, ℕ, ◌≤◌, List, Option, IfSome, Some, None, false}
 use Rattle.std.proofs.Common.{refl, ◌∙◌}
 use Rattle.tk_model.specs.declared.record.Group.{Group}
 use Rattle.tk_model.specs.declared.record.Change.{Change}
 use Rattle.tk_model.specs.Records.{replay, Rising, AllHeld}
-use Rattle.tk_store.specs.Store.{First, floor_after, extents_need}
+use Rattle.tk_store.specs.Store.{First, extents_need}
 use Rattle.tk_mem.specs.TinyLaws.{tiny_values}
 use Rattle.tk_mem.specs.TinyStored.{is_closed, ended_in, stored_constants, stored_view, StoredStands, StoredUntouched}
 use Rattle.tk_mem.specs.declared.tiny_store.Stage.{Stage}

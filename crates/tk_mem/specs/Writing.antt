@@ -1,5 +1,5 @@
 -- Bytes on their way to a disk.
-use Rattle.std.specs.Prelude.{◌≡◌, ℕ, ◌+◌, ◌≤◌, List, ◌++◌, length, take, Option}
+use Rattle.std.specs.Prelude.{ℕ, List, ◌++◌, take, Option}
 use Rattle.std.specs.Option.{option_map}
 use Rattle.tk_mem.specs.declared.write.Pieces.{Pieces}
 

@@ -1,12 +1,12 @@
 ghost use Rattle.std.specs.Prelude.{◌≡◌, ◌≤◌, ◌<◌, ◌^◌, [], ℕ, List, IfOk, IfErr, IfSome, OnOk, min, false};
-ghost use Rattle.std.specs.Option.{is_some, option_map};
-ghost use Rattle.tk_model.specs.Counts.{HasCause, Rose};
+ghost use Rattle.std.specs.Option.{option_map};
+ghost use Rattle.tk_model.specs.Counts.{Rose};
 ghost use Rattle.tk_model.specs.declared.error.OpenError.TheVariants as OpenError;
 ghost use Rattle.tk_model.specs.declared.record.Pair.{Pair as OneRecord};
 ghost use Rattle.tk_disk.specs.Crash.{Only};
 ghost use Rattle.tk_flat.specs.Flat.{flat_text};
 ghost use Rattle.tk_model.specs.Records.{AllHeld};
-ghost use Rattle.tk_store.specs.Store.{HasCause as StoreHasCause, IsWhole, Keeps, NeverFull, OnNoMemory};
+ghost use Rattle.tk_store.specs.Store.{HasCause as StoreHasCause, Keeps, NeverFull, OnNoMemory};
 
 use crate::load::read_records;
 use crate::tiny_records::TinyRecords;

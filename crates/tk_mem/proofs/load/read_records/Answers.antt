@@ -1,4 +1,4 @@
-use Rattle.std.proofs.Common.{◌≡◌, ◌∙◌, length, refl}
+use Rattle.std.proofs.Common.{◌≡◌, ◌∙◌, length}
 use Rattle.tk_mem.proofs.Readings.{told, begin_read, end_read}
 use Rattle.tk_mem.proofs.load.read_records.Goals as goal
 
