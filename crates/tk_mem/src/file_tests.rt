@@ -8,8 +8,8 @@ use crate::tests::{apply, setting};
 use std::alloc::Global;
 use std::test::Fail;
 use tk_disk::{Disk, MemDisk};
-use tk_model::{Bytes, FaultList, NoMemory, OpenError, Pair, ShardOf, mix, shard, write_record};
-use tk_store::{HashedRecords, PairsLeft, SeqStore, StoreError};
+use tk_model::{Bytes, FaultList, NoMemory, OpenError, Pair, ShardOf, mix, shard};
+use tk_store::{HashedRecords, SeqStore, StoreError};
 
 const ALONE: ShardOf = ShardOf { index: 0, of: 1 };
 
@@ -155,12 +155,17 @@ fn many(alloc: Global, count: u64) -> Result<HashedRecords, NoMemory> {
     Ok(records)
 }
 
-/// The flat text of records.
-fn text_of(alloc: Global, left: PairsLeft<'_>) -> Result<Bytes, NoMemory> {
+/// The flat text of records whose keys and values have eight bytes.
+fn text_of(alloc: Global, records: &HashedRecords) -> Result<Bytes, NoMemory> {
     let mut text = Bytes::from_slice(alloc, b"TKPFLAT\n")?;
-    let mut rest = left;
-    while let Some((pair, behind)) = rest.split_first() {
-        write_record(pair.key.as_slice(), pair.value.as_slice(), &mut text)?;
+    let mut rest = records.pairs();
+    for _ in 0..records.len() {
+        let Some((pair, behind)) = rest.split_first() else {
+            return Ok(text);
+        };
+        text.extend(&[0, 8, 0, 0, 0, 8])?;
+        text.extend(pair.key.as_slice())?;
+        text.extend(pair.value.as_slice())?;
         rest = behind;
     }
     Ok(text)
@@ -170,7 +175,7 @@ fn text_of(alloc: Global, left: PairsLeft<'_>) -> Result<Bytes, NoMemory> {
 fn closed_as_it_was(rt: HostRuntime) -> Result<(), Fail> {
     let alloc = rt.alloc();
     let records = many(alloc, 100_000)?;
-    let text = text_of(alloc, records.pairs())?;
+    let text = text_of(alloc, &records)?;
     let mut store = loaded(alloc, text.as_slice(), &[])?;
     assert_eq!(rt; (store.count(), store.size()), (100_000, 2_200_008));
     store.close(0)?;

@@ -156,6 +156,15 @@ fn is_at(found: &Option<Pair>, pair: &Pair) -> bool {
     }
 }
 
+fn first<S: SeqStore>(store: &mut S) -> Result<Option<Pair>, StoreError>
+    requires whole { IsWhole S.stands store.old }
+    ensures whole { IsWhole S.stands store.new }
+    ensures store_view { S.store_view store.new ≡ S.store_view store.old }
+    ensures constants { S.constants store.new ≡ S.constants store.old }
+{
+    store.next(&Bound::Edge)
+}
+
 /// The records, one after the other, are those of the list.
 fn are<S: SeqStore>(store: &mut S, list: &PairList) -> Result<bool, StoreError>
     requires whole { IsWhole S.stands store.old }
@@ -226,7 +235,7 @@ fn a_dropped_group_is_not_made(rt: HostRuntime) -> Result<(), Fail> {
     apply(&mut store, 0, &changes)?;
     let dropped = setting(alloc, b"b", b"2")?;
     prepare(&mut store, &dropped)?;
-    assert!(rt; is_at(&store.next(&Bound::Edge)?, &pair(alloc, b"a", b"1")?));
+    assert!(rt; is_at(&first(&mut store)?, &pair(alloc, b"a", b"1")?));
     put_in(&mut list, &Order::Hash, pair(alloc, b"c", b"3")?)?;
     let changes = setting(alloc, b"c", b"3")?;
     apply(&mut store, 1, &changes)?;
