@@ -1,10 +1,10 @@
 -- How the length of a text follows from changes.
-use Rattle.std.proofs.Common.{◌≡◌, ℕ, ◌+◌, ◌≤◌, Bool, true, false, List, [], ◌∷◌, length, Option, Some, None, refl, sym, ap, subst, ◌∙◌, arith, if◌then◌else◌}
+use Rattle.std.proofs.Common.{◌≡◌, ℕ, ◌+◌, ◌≤◌, Bool, true, false, List, [], ◌∷◌, length, Some, None, refl, sym, ap, subst, ◌∙◌, arith, if◌then◌else◌}
 use Rattle.std.specs.declared.cmp.Ordering.{Ordering}
 use Rattle.std.specs.declared.cmp.Ordering.TheVariants.{Less, Equal, Greater}
 use Rattle.tk_model.specs.Orders.{same_bytes, key_cmp}
 use Rattle.tk_model.specs.RecordText.{record_size}
-use Rattle.tk_model.specs.Records.{find, put, put_by, without, AllBehind, Rising}
+use Rattle.tk_model.specs.Records.{find, put, put_by, without, Rising}
 use Rattle.tk_model.specs.declared.record.Order.TheVariants.{Hash}
 use Rattle.tk_model.specs.declared.record.Pair.{Pair}
 use Rattle.tk_model.proofs.KeyOrders.{keys_apart, same_told, same_itself}

@@ -1,14 +1,14 @@
 -- How records in memory go on as a store.
-use Rattle.std.proofs.Common.{◌≡◌, ℕ, ◌+◌, ◌<◌, ◌≤◌, ◌^◌, true, List, [], ◌∷◌, ◌++◌, length, Some, refl, sym, ap, ◌∙◌, subst, arith, length-append}
+use Rattle.std.proofs.Common.{◌≡◌, ℕ, ◌<◌, ◌^◌, true, List, [], ◌∷◌, ◌++◌, length, Some, refl, arith, length-append}
 use Rattle.tk_model.specs.declared.record.Group.{Group}
 use Rattle.tk_model.specs.declared.record.Pair.{Pair}
 use Rattle.tk_model.specs.declared.record.Change.{Change}
 use Rattle.tk_model.specs.declared.record.Order.TheVariants.{Hash}
-use Rattle.tk_model.specs.Records.{find, after, AllHeld}
+use Rattle.tk_model.specs.Records.{find, AllHeld}
 use Rattle.tk_store.specs.Store.{First, groups_made_by}
 use Rattle.tk_store.proofs.Fits.{fits_file}
 use Rattle.tk_store.proofs.Mem.{found_fits as held_fits, after_held, replay_more, floor_more}
-use Rattle.tk_mem.specs.TinyView.{next_of, settled}
+use Rattle.tk_mem.specs.TinyView.{next_of}
 use Rattle.tk_mem.specs.Tiny.{tiny_constants, TinyReserved, TinyStands}
 use Rattle.tk_mem.specs.declared.tiny_records.TinyRecords.{TinyRecords}
 

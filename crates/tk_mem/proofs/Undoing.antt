@@ -1,14 +1,14 @@
 -- A change and what undoes it.
-use Rattle.std.proofs.Common.{◌≡◌, ◌⊎◌, inl, inr, ℕ, zero, suc, ◌+◌, ◌-◌, ◌<◌, ◌≤◌, get_or, arith, Bool, true, false, List, [], ◌∷◌, ◌++◌, length, take, Option, Some, None, refl, sym, ap, subst, ◌∙◌, if◌then◌else◌}
+use Rattle.std.proofs.Common.{◌≡◌, ◌⊎◌, inl, inr, ℕ, zero, suc, ◌+◌, ◌-◌, ◌<◌, ◌≤◌, get_or, arith, true, false, List, [], ◌∷◌, ◌++◌, length, take, Option, Some, None, refl, sym, ap, ◌∙◌}
 use Rattle.std.proofs.lemmas.List.{length-take-le, take_all, take-take}
-use Rattle.tk_model.specs.Orders.{same_bytes, key_cmp}
-use Rattle.tk_model.specs.Records.{find, put, without, after_one, HasNoClear, Rising}
+use Rattle.tk_model.specs.Orders.{same_bytes}
+use Rattle.tk_model.specs.Records.{find, after_one, HasNoClear, Rising}
 use Rattle.tk_model.specs.declared.record.Order.TheVariants.{Hash}
 use Rattle.tk_model.specs.declared.record.Pair.{Pair}
 use Rattle.tk_model.specs.declared.record.Change.{Change}
 use Rattle.tk_model.specs.declared.record.Change.TheVariants as changes
 use Rattle.tk_model.proofs.KeyOrders.{same_told}
-use Rattle.tk_model.proofs.RecordLaws.{so_or_not, put_rising, without_rising, one_rising, find_put_same, find_put_other, find_without_same, find_without_other, same_records}
+use Rattle.tk_model.proofs.RecordLaws.{so_or_not, one_rising, find_put_same, find_put_other, find_without_same, find_without_other, same_records}
 use Rattle.tk_mem.specs.Undo.{key_of, undo_of, undone}
 
 take_more_at : (us : List Change) (i : ℕ) (u : Change) → i < length us → u ≡ get_or us i u → take (i + 1) us ≡ take i us ++ u ∷ []

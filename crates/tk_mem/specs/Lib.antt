@@ -2,3 +2,8 @@ pub mod Undo
 pub mod TinyView
 pub mod Tiny
 pub mod TinyLaws
+pub mod TinyFile
+pub mod Loading
+pub mod Writing
+pub mod TinyStored
+pub mod TinyStoredLaws

@@ -1,5 +1,5 @@
 -- Changes that undo others, and the length of the text of records.
-use Rattle.std.specs.Prelude.{ℕ, ◌+◌, List, [], ◌∷◌, length, Option, Some, None}
+use Rattle.std.specs.Prelude.{ℕ, ◌+◌, List, [], ◌∷◌, Option, Some, None}
 use Rattle.tk_model.specs.RecordText.{record_size}
 use Rattle.tk_model.specs.Records.{after_one}
 use Rattle.tk_model.specs.declared.record.Order.TheVariants.{Hash}

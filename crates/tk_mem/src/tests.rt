@@ -43,7 +43,7 @@ fn add_put(
     changes.push(Change::Put(Pair { key, value }))
 }
 
-fn setting(alloc: Global, key: &[u8], value: &[u8]) -> Result<ChangeList, NoMemory>
+pub(crate) fn setting(alloc: Global, key: &[u8], value: &[u8]) -> Result<ChangeList, NoMemory>
     requires key { length key.now ≤ 8 }
     requires value { length value.now ≤ 8 }
     ensures fit { IfOk result (AllFitWithin 16777215) }
@@ -65,7 +65,11 @@ fn dropping(alloc: Global, key: &[u8]) -> Result<ChangeList, NoMemory>
 }
 
 /// Makes a group, and answers what it needed.
-fn apply<S: SeqStore>(store: &mut S, number: u64, changes: &ChangeList) -> Result<u64, StoreError>
+pub(crate) fn apply<S: SeqStore>(
+    store: &mut S,
+    number: u64,
+    changes: &ChangeList,
+) -> Result<u64, StoreError>
     requires whole { IsWhole S.stands store.old }
     requires open { (S.store_view store.old).closed ≡ false }
     requires writable { (S.constants store.old).writable ≡ true }
@@ -81,6 +85,21 @@ fn apply<S: SeqStore>(store: &mut S, number: u64, changes: &ChangeList) -> Resul
     store.reserve_group(changes)?;
     store.apply_reserved(number)?;
     Ok(need)
+}
+
+/// Prepares a group.
+fn prepare<S: SeqStore>(store: &mut S, changes: &ChangeList) -> Result<(), StoreError>
+    requires whole { IsWhole S.stands store.old }
+    requires open { (S.store_view store.old).closed ≡ false }
+    requires writable { (S.constants store.old).writable ≡ true }
+    requires alone { IsClearAlone changes.now }
+    requires fit { AllFitWithin 16777215 changes.now }
+    ensures whole { OnOk result (IsWhole S.stands store.new) }
+    ensures open { (S.store_view store.new).closed ≡ false }
+    ensures writable { (S.constants store.new).writable ≡ true }
+    ensures floor { OnOk result ((S.store_view store.new).floor ≡ (S.store_view store.old).floor) }
+{
+    store.reserve_group(changes)
 }
 
 /// Sets a key, or takes one away, in the store and in a sorted list.
@@ -137,6 +156,15 @@ fn is_at(found: &Option<Pair>, pair: &Pair) -> bool {
     }
 }
 
+fn first<S: SeqStore>(store: &mut S) -> Result<Option<Pair>, StoreError>
+    requires whole { IsWhole S.stands store.old }
+    ensures whole { IsWhole S.stands store.new }
+    ensures store_view { S.store_view store.new ≡ S.store_view store.old }
+    ensures constants { S.constants store.new ≡ S.constants store.old }
+{
+    store.next(&Bound::Edge)
+}
+
 /// The records, one after the other, are those of the list.
 fn are<S: SeqStore>(store: &mut S, list: &PairList) -> Result<bool, StoreError>
     requires whole { IsWhole S.stands store.old }
@@ -174,5 +202,44 @@ fn synced_and_closed(rt: HostRuntime) -> Result<(), Fail> {
     store.close(0)?;
     assert_eq!(rt; (store.size(), store.count()), (8, 0));
     assert_eq!(rt; (store.faults(), store.taken()), (0, 0));
+    Ok(())
+}
+
+#[test]
+fn full_with_its_numbers(rt: HostRuntime) -> Result<(), Fail> {
+    let alloc = rt.alloc();
+    let mut store = empty(alloc, 17)?;
+    let changes = setting(alloc, b"k", b"v")?;
+    assert_eq!(rt; apply(&mut store, 0, &changes)?, 8);
+    let changes = setting(alloc, b"k", b"vw")?;
+    assert_eq!(rt; apply(&mut store, 1, &changes)?, 1);
+    let changes = setting(alloc, b"l", b"")?;
+    let answer = prepare(&mut store, &changes);
+    let full = StoreError::Full {
+        size: 17,
+        need: 7,
+        limit: 17,
+    };
+    assert_eq!(rt; answer, Err(full));
+    assert_eq!(rt; (store.count(), store.size()), (1, 17));
+    Ok(())
+}
+
+#[test]
+fn a_dropped_group_is_not_made(rt: HostRuntime) -> Result<(), Fail> {
+    let alloc = rt.alloc();
+    let mut store = empty(alloc, u64::MAX)?;
+    let mut list = PairList::new(alloc);
+    put_in(&mut list, &Order::Hash, pair(alloc, b"a", b"1")?)?;
+    let changes = setting(alloc, b"a", b"1")?;
+    apply(&mut store, 0, &changes)?;
+    let dropped = setting(alloc, b"b", b"2")?;
+    prepare(&mut store, &dropped)?;
+    assert!(rt; is_at(&first(&mut store)?, &pair(alloc, b"a", b"1")?));
+    put_in(&mut list, &Order::Hash, pair(alloc, b"c", b"3")?)?;
+    let changes = setting(alloc, b"c", b"3")?;
+    apply(&mut store, 1, &changes)?;
+    assert_eq!(rt; store.size(), 24);
+    assert!(rt; are(&mut store, &list)?);
     Ok(())
 }

@@ -1,10 +1,10 @@
-ghost use Rattle.std.specs.Prelude.{◌≡◌, ◌+◌, ◌≤◌, [], IfOk, min, ◌^◌, true, false};
+ghost use Rattle.std.specs.Prelude.{◌≡◌, ◌+◌, ◌≤◌, [], IfOk, OnOk, min, ◌^◌, true, false};
 ghost use Rattle.std.specs.Option.{option_copied};
 
 use crate::tiny_map::TinyMap;
 use std::alloc::Global;
 use tk_model::{Bound, Bytes, ChangeList, NoMemory, Order, Pair, copy_pair};
-use tk_store::{HashedRecords, SeqStore, StoreError, is_over};
+use tk_store::{HashedRecords, PairsLeft, SeqStore, StoreError, is_over};
 
 /// The longest text of records.
 const LIMIT: u64 = 1 << 40;
@@ -24,7 +24,8 @@ pub struct TinyRecords {
 
 impl TinyRecords {
     ghost use Rattle.tk_model.specs.Records.{AllHeld};
-    ghost use Rattle.tk_store.specs.Store.{Records};
+    ghost use Rattle.tk_store.specs.Store.{Records, Keeps};
+    ghost use Rattle.tk_store.specs.PairsLeft.{pairs_left};
     ghost use Rattle.tk_mem.specs.Tiny.{TinyStands, tiny_view, tiny_constants};
     ghost use Rattle.tk_mem.specs.Undo.{text_size};
 
@@ -55,6 +56,30 @@ impl TinyRecords {
             next_size: size,
             grows: false,
         }
+    }
+
+    /// Whether the store was opened for writing.
+    pub(crate) fn writable(&self) -> bool
+        ensures { result ≡ (tiny_constants self.now).writable }
+    {
+        self.writable
+    }
+
+    /// Drops what is prepared.
+    pub(crate) fn settle(&mut self) -> Result<(), NoMemory>
+        ensures store_view { tiny_view self.new ≡ tiny_view self.old }
+        ensures constants { tiny_constants self.new ≡ tiny_constants self.old }
+        ensures stands { Keeps TinyStands self.old self.new }
+        ensures settled { OnOk result (self.new.map.table ≡ self.new.map.pairs) }
+    {
+        self.map.settle()
+    }
+
+    /// All records, in hash order, where nothing is prepared.
+    pub(crate) fn pairs(&self) -> PairsLeft<'_>
+        ensures { pairs_left result ≡ self.now.map.table }
+    {
+        self.map.pairs()
     }
 }
 

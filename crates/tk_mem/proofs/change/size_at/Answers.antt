@@ -1,5 +1,4 @@
-use Rattle.std.proofs.Common.{◌≡◌, ◌+◌, ◌≤◌, length, arith}
-use Rattle.tk_mem.specs.Undo.{text_size}
+use Rattle.std.proofs.Common.{arith}
 use Rattle.tk_mem.proofs.Sizes.{size_found}
 use Rattle.tk_mem.proofs.change.size_at.Goals as goal
 
