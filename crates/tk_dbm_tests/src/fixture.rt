@@ -1,57 +1,68 @@
 //! Databases for tests.
+ghost use Rattle.std.specs.Prelude.{◌≡◌, ◌≤◌, ◌^◌, ◌∷◌, [], length, IfOk};
+ghost use Rattle.tk_dbm_tests.specs.Fixture.{IsNew, IsIdle};
+
 use std::alloc::Global;
 use std::sync::Wait;
 use tk_dbm::{Answer, Dbm, Pass, StoreList};
-use tk_disk::MemDisk;
-use tk_hash::HashStore;
 use tk_hashnum::{mix, stripe};
-use tk_model::{Bytes, FaultList, NoMemory, OpenError, ShardOf};
-use tk_proc::{Getter, Setter};
+use tk_mem::TinyRecords;
+use tk_model::{Bytes, NoMemory};
+use tk_proc::{Getter, RecordProcessor, Setter};
 use tk_status::Status;
+use tk_store::HashedRecords;
 
-pub type Store = HashStore<MemDisk>;
+pub type Store = TinyRecords;
 
 pub const LIMIT: u64 = 1 << 30;
 
-/// The calls that make a new file.
-pub const MAKING: u64 = 8;
-
-const ALONE: ShardOf = ShardOf { index: 0, of: 1 };
-
-/// A store over a new file, whose disk fails at these calls.
-pub fn store(alloc: Global, p: u8, limit: u64, faults: &[u64]) -> Result<Store, OpenError> {
-    let mut list = FaultList::new(alloc);
-    for call in faults {
-        list.push(*call)?;
-    }
-    let faults = list;
-    let disk = MemDisk::new(alloc, Bytes::new(alloc), 100_000_000, faults)?;
-    match HashStore::create_file(alloc, disk, p, limit, ALONE) {
-        Ok(store) => Ok(store),
-        Err(unopened) => Err(unopened.cause),
-    }
+/// A store without records.
+pub fn store(alloc: Global, limit: u64) -> Result<Store, NoMemory>
+    ensures { IfOk result IsNew }
+{
+    let records = HashedRecords::new(alloc, 0)?;
+    Ok(TinyRecords::of(alloc, records, 8, true, limit))
 }
 
-/// The store again, over its closed file.
-pub fn again(alloc: Global, store: Store, writable: bool) -> Result<Store, OpenError> {
-    match HashStore::open_file(alloc, store.into_disk(), writable, LIMIT, ALONE) {
-        Ok(store) => Ok(store),
-        Err(unopened) => Err(unopened.cause),
-    }
+fn one(alloc: Global, store: Store) -> Result<StoreList<Store>, NoMemory>
+    ensures { IfOk result (λ xs. xs ≡ store ∷ []) }
+{
+    let mut stores = StoreList::new(alloc);
+    stores.push(store)?;
+    Ok(stores)
 }
 
+/// A database of this store, and the pass that has the whole allowance.
 pub fn alone(
     alloc: Global,
     store: Store,
     base: u64,
     writable: bool,
-) -> Result<(Dbm<Store>, Pass), NoMemory> {
-    let mut stores = StoreList::new(alloc);
-    stores.push(store)?;
+) -> Result<(Dbm<Store>, Pass), NoMemory>
+    requires new { IsNew store }
+    requires base { base ≤ 2 ^ 62 }
+    ensures { IfOk result (λ d. IsIdle d.0 d.1) }
+{
+    let stores = one(alloc, store)?;
     match Dbm::make(alloc, stores, 16, base, writable) {
         Ok(made) => Ok(made),
         Err(_) => Err(NoMemory),
     }
+}
+
+pub fn call<P: RecordProcessor, R: Wait>(
+    rt: &R,
+    db: &Dbm<Store>,
+    pass: &mut Pass,
+    key: &[u8],
+    p: &mut P,
+    writable: bool,
+) -> Answer
+    requires own { IsIdle db.now pass.old }
+    requires key { length key.now ≤ 65535 }
+    ensures own { IsIdle db.now pass.new }
+{
+    db.process(rt, pass, key, p, writable)
 }
 
 pub fn set<R: Wait>(
@@ -61,9 +72,13 @@ pub fn set<R: Wait>(
     pass: &mut Pass,
     key: &[u8],
     value: &[u8],
-) -> Result<Answer, NoMemory> {
+) -> Result<Answer, NoMemory>
+    requires own { IsIdle db.now pass.old }
+    requires key { length key.now ≤ 65535 }
+    ensures own { IsIdle db.now pass.new }
+{
     let mut setter = Setter::new(Bytes::from_slice(alloc, value)?);
-    Ok(db.process(rt, pass, key, &mut setter, true))
+    Ok(call(rt, db, pass, key, &mut setter, true))
 }
 
 /// The answer, and the value where there is one.
@@ -73,9 +88,13 @@ pub fn get<R: Wait>(
     db: &Dbm<Store>,
     pass: &mut Pass,
     key: &[u8],
-) -> (Answer, Option<Bytes>) {
+) -> (Answer, Option<Bytes>)
+    requires own { IsIdle db.now pass.old }
+    requires key { length key.now ≤ 65535 }
+    ensures own { IsIdle db.now pass.new }
+{
     let mut getter = Getter::new(alloc);
-    let answer = db.process(rt, pass, key, &mut getter, false);
+    let answer = call(rt, db, pass, key, &mut getter, false);
     (answer, getter.into_value())
 }
 

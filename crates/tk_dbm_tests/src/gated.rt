@@ -3,20 +3,20 @@ use std::sync::atomic::{AtomicU64, Ordering};
 use tk_model::{Action, NoMemory};
 use tk_proc::RecordProcessor;
 
-/// Keeps what is there. It comes to the word, and waits some turns for another to come; `met` tells whether one came.
+/// Keeps what is there. It comes to the word, and waits some turns for another to come; `met` counts those to whom one came.
 #[derive(Drop)]
 pub struct Gated<'a> {
     pub word: &'a AtomicU64,
+    pub met: &'a AtomicU64,
     pub turns: u32,
-    pub met: bool,
 }
 
 impl Gated<'_> {
-    fn wait(&mut self) {
+    fn wait(&self) {
         self.word.fetch_add(1, Ordering::SeqCst);
         for _ in 0..self.turns {
             if self.word.load(Ordering::SeqCst) >= 2 {
-                self.met = true;
+                self.met.fetch_add(1, Ordering::SeqCst);
                 return;
             }
             hint::spin_loop();

@@ -10,11 +10,10 @@ pub struct Tagger {
 }
 
 impl RecordProcessor for Tagger {
-    ghost use Rattle.std.specs.Prelude.{[], ◌∷◌, ◌++◌};
-    ghost use Rattle.std.specs.Option.{option_map_or};
+    ghost use Rattle.std.specs.Prelude.{[], ◌∷◌, ◌++◌, unwrap_or};
     ghost use Rattle.tk_model.specs.declared.record.Action.TheVariants.{Put};
 
-    ghost acts = { λ p k was. Put (option_map_or (λ v. v) [] was ++ p.tag ∷ []) };
+    ghost acts = { λ p k was. Put (unwrap_or was [] ++ p.tag ∷ []) };
 
     ghost turns = { λ p k was. p };
 

@@ -1,13 +1,16 @@
 //! Many threads on one database.
-use crate::fixture::{LIMIT, Store, alone, get, is_done, key_of, store};
+ghost use Rattle.std.specs.Prelude.{◌≤◌, length};
+ghost use Rattle.tk_dbm_tests.specs.Fixture.{IsIdle};
+
+use crate::fixture::{LIMIT, Store, alone, call, get, is_done, key_of, store};
 use crate::{Gated, Tagger};
 use std::alloc::Global;
 use std::sync::Wait;
-use std::sync::atomic::AtomicU64;
+use std::sync::atomic::{AtomicU64, Ordering};
 use std::test::*;
 use std::thread::{self, Threads};
 use tk_dbm::{Dbm, Pass};
-use tk_model::OpenError;
+use tk_model::NoMemory;
 use tk_status::Status;
 
 /// So many calls, each of which puts the tag behind the value.
@@ -19,11 +22,15 @@ fn tag<R: Wait>(
     key: &[u8],
     tag: u8,
     count: u32,
-) -> (Pass, bool) {
+) -> (Pass, bool)
+    requires own { IsIdle db.now pass }
+    requires key { length key.now ≤ 65535 }
+    ensures own { IsIdle db.entry.now result.0 }
+{
     let mut done = true;
     for _ in 0..count {
         let mut tagger = Tagger { alloc, tag };
-        let answer = db.process(rt, &mut pass, key, &mut tagger, true);
+        let answer = call(rt, db, &mut pass, key, &mut tagger, true);
         done = done && answer.status == Status::Success && answer.number.is_some();
     }
     (pass, done)
@@ -32,7 +39,7 @@ fn tag<R: Wait>(
 #[test]
 fn two_threads_make_each_call_once(rt: HostRuntime) -> Result<(), Fail> {
     let alloc = rt.alloc();
-    let (db, mut pass) = alone(alloc, store(alloc, 0, LIMIT, &[])?, 0, true)?;
+    let (db, mut pass) = alone(alloc, store(alloc, LIMIT)?, 0, true)?;
     let mine = db.split(&mut pass);
     let theirs = db.split(&mut pass);
     let shared = &db;
@@ -58,41 +65,52 @@ fn two_threads_make_each_call_once(rt: HostRuntime) -> Result<(), Fail> {
     Ok(())
 }
 
+/// Two threads make so many calls each, at keys of the stripes of their tags.
+fn both<R: Threads + Wait + Sync>(
+    rt: &R,
+    alloc: Global,
+    db: &Dbm<Store>,
+    one: (Pass, u8),
+    other: (Pass, u8),
+    count: u32,
+) -> (Pass, Pass, bool)
+    requires one { IsIdle db.now one.0 }
+    requires other { IsIdle db.now other.0 }
+    ensures one { IsIdle db.entry.now result.0 }
+    ensures other { IsIdle db.entry.now result.1 }
+{
+    let (one, a) = one;
+    let (other, b) = other;
+    let (here, there) = (key_of(a as u32), key_of(b as u32));
+    let ((one, x), (other, y)) = thread::join(
+        rt,
+        || tag(rt, alloc, db, one, &here, a, count),
+        || tag(rt, alloc, db, other, &there, b, count),
+    );
+    (one, other, x && y)
+}
+
 #[test]
 fn four_threads_share_a_store(rt: HostRuntime) -> Result<(), Fail> {
     let alloc = rt.alloc();
-    let (db, mut pass) = alone(alloc, store(alloc, 4, LIMIT, &[])?, 0, true)?;
+    let (db, mut pass) = alone(alloc, store(alloc, LIMIT)?, 0, true)?;
     let first = db.split(&mut pass);
     let second = db.split(&mut pass);
     let third = db.split(&mut pass);
     let fourth = db.split(&mut pass);
     let shared = &db;
-    let (one, other) = thread::join(
+    let ((first, second, a), (third, fourth, b)) = thread::join(
         &rt,
-        || {
-            thread::join(
-                &rt,
-                || tag(&rt, alloc, shared, first, &key_of(0), 1, 250),
-                || tag(&rt, alloc, shared, second, &key_of(1), 2, 250),
-            )
-        },
-        || {
-            thread::join(
-                &rt,
-                || tag(&rt, alloc, shared, third, &key_of(2), 3, 250),
-                || tag(&rt, alloc, shared, fourth, &key_of(3), 4, 250),
-            )
-        },
+        || both(&rt, alloc, shared, (first, 1), (second, 2), 250),
+        || both(&rt, alloc, shared, (third, 3), (fourth, 4), 250),
     );
-    let ((first, a), (second, b)) = one;
-    let ((third, c), (fourth, d)) = other;
-    assert!(rt; a && b && c && d);
+    assert!(rt; a && b);
     db.join(&mut pass, first);
     db.join(&mut pass, second);
     db.join(&mut pass, third);
     db.join(&mut pass, fourth);
     assert_eq!(rt; db.look(&mut pass), 1000);
-    for lock in 0..4 {
+    for lock in 1..5 {
         let (_, value) = get(&rt, alloc, &db, &mut pass, &key_of(lock));
         assert!(rt; value.is_some_and(|value| value.len() == 250));
     }
@@ -100,45 +118,49 @@ fn four_threads_share_a_store(rt: HostRuntime) -> Result<(), Fail> {
     Ok(())
 }
 
-/// One call that waits some turns for another, and whether one came.
+/// One call of this processor, and whether it was made.
 fn meet<R: Wait>(
     rt: &R,
     db: &Dbm<Store>,
     mut pass: Pass,
     key: &[u8],
-    word: &AtomicU64,
-    turns: u32,
-) -> (Pass, bool) {
-    let mut gated = Gated {
-        word,
-        turns,
-        met: false,
-    };
-    let answer = db.process(rt, &mut pass, key, &mut gated, false);
-    (pass, gated.met && answer.status == Status::Success)
+    mut gated: Gated,
+) -> (Pass, bool)
+    requires own { IsIdle db.now pass }
+    requires key { length key.now ≤ 65535 }
+    ensures own { IsIdle db.entry.now result.0 }
+{
+    let answer = call(rt, db, &mut pass, key, &mut gated, false);
+    (pass, answer.status == Status::Success)
 }
 
-/// How many of two processors on these keys saw the other come.
+/// How many of two processors on these keys saw the other come, and how many calls were made.
 fn met<R: Threads + Wait + Sync>(
     rt: &R,
     alloc: Global,
     one: &[u8],
     other: &[u8],
     turns: u32,
-) -> Result<(u32, u64), OpenError> {
-    let (db, mut pass) = alone(alloc, store(alloc, 0, LIMIT, &[])?, 0, true)?;
+) -> Result<(u64, u64), NoMemory>
+    requires one { length one.now ≤ 65535 }
+    requires other { length other.now ≤ 65535 }
+{
+    let (db, mut pass) = alone(alloc, store(alloc, LIMIT)?, 0, true)?;
     let mine = db.split(&mut pass);
     let shared = &db;
-    let word = AtomicU64::new(0);
-    let at = &word;
-    let ((mine, a), (theirs, b)) = thread::join(
+    let (word, met) = (AtomicU64::new(0), AtomicU64::new(0));
+    let (word, met) = (&word, &met);
+    let ((mine, a), (mut pass, b)) = thread::join(
         rt,
-        || meet(rt, shared, mine, one, at, turns),
-        || meet(rt, shared, pass, other, at, turns),
+        || meet(rt, shared, mine, one, Gated { word, met, turns }),
+        || meet(rt, shared, pass, other, Gated { word, met, turns }),
     );
-    let mut pass = theirs;
     db.join(&mut pass, mine);
-    Ok((a as u32 + b as u32, db.close(pass).calls))
+    let closed = db.close(pass);
+    if !(a && b) {
+        return Ok((0, 0));
+    }
+    Ok((met.load(Ordering::SeqCst), closed.calls))
 }
 
 #[test]
