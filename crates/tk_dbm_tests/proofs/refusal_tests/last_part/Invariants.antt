@@ -1,8 +1,0 @@
-use Rattle.tk_dbm_tests.specs.Fixture.{IsIdle}
-use Rattle.tk_dbm_tests.proofs.refusal_tests.last_part.Given as goal
-
-abbrev pub invariant-loop : goal.invariant-loop
-invariant-loop g l = record {
-  own : IsIdle l.db.now l.pass;
-  last : IsIdle l.db.now l.last;
-}
