@@ -103,7 +103,7 @@ module _ {T : Type 0} (law : List Pair → Bool) (stands : T → First → List 
     unfolding good_of
     map_in x log n good = if_told (store_view x).map (λ r. r ≡ shard_records (shard f i) (map_after f m log)) (λ told. let b = began in let s = good.stands_now told b.0 b.1 in
         if_some (store_view x).map (λ r. r ≡ replay (constants x).order (groups_of f m log i) b.0.records) (λ r. r ≡ shard_records (shard f i) (map_after f m log))
-        (λ r e. e ∙ ap (λ (o : Order). replay o (groups_of f m log i) b.0.records) (in_order x (groups_of f m log i) n good) ∙ ap (replay f.order (groups_of f m log i)) (fresh.shards i b.0 b.1) ∙ parts_reach f.order (shard f i) f.base m log fresh.rising)
+        (λ r e. e ∙ ap (λ (o : Order). replay o (groups_of f m log i) b.0.records) (in_order x (groups_of f m log i) n good) ∙ ap (replay f.order (groups_of f m log i)) (fresh.shards i b.0 b.1 (sym ((good.natured b.1.0 b.1.1).1) ∙ told)) ∙ parts_reach f.order (shard f i) f.base m log fresh.rising)
         (replays x b.0 (groups_of f m log i) s.0 s.2))
 
     pub found_in : (x : T) (log : List Entry) (n : ℕ) (k : List ℕ) → store_of f k ≡ i → Good x (groups_of f m log i) n → IfSome (store_view x).map (λ r. find k r ≡ find k (map_after f m log))

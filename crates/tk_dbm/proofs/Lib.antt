@@ -8,3 +8,4 @@ pub mod Closing
 pub mod Fates
 pub mod Looks
 pub mod Making
+pub mod One

@@ -1,12 +1,13 @@
 //! How databases end.
-use crate::fixture::{LIMIT, alone, is_done, set, store};
+use crate::fixture::{alone, is_done, set};
+use crate::stores::{LIMIT, tiny};
 use std::test::*;
 use tk_status::Status;
 
 #[test]
 fn a_part_ends_the_stores_too(rt: HostRuntime) -> Result<(), Fail> {
     let alloc = rt.alloc();
-    let (db, mut pass) = alone(alloc, store(alloc, LIMIT)?, 0, true)?;
+    let (db, mut pass) = alone(alloc, tiny(alloc, LIMIT)?, 0, true)?;
     let part = db.split(&mut pass);
     assert!(rt; is_done(&set(&rt, alloc, &db, &mut pass, b"a", b"1")?, 0));
     let closed = db.close(part);

@@ -1,30 +1,22 @@
-//! Databases for tests.
-ghost use Rattle.std.specs.Prelude.{◌≡◌, ◌≤◌, ◌^◌, ◌∷◌, [], length, IfOk};
-ghost use Rattle.tk_dbm_tests.specs.Fixture.{IsNew, IsIdle};
+//! A database of one store.
+ghost use Rattle.std.specs.Prelude.{◌≡◌, ◌≤◌, ◌^◌, ◌∷◌, [], List, true, length, IfOk};
+ghost use Rattle.tk_model.specs.declared.record.Pair.{Pair};
+ghost use Rattle.tk_dbm.specs.Dbm.{IsIdleOf};
+ghost use Rattle.tk_dbm_tests.specs.Fixture.{IsOpened};
 
 use std::alloc::Global;
 use std::sync::Wait;
 use tk_dbm::{Answer, Dbm, Pass, StoreList};
 use tk_hashnum::{mix, stripe};
-use tk_mem::TinyRecords;
 use tk_model::{Bytes, NoMemory};
 use tk_proc::{Getter, RecordProcessor, Setter};
 use tk_status::Status;
-use tk_store::HashedRecords;
+use tk_store::SeqStore;
 
-pub type Store = TinyRecords;
+/// Few stripes, so that tests find keys for each.
+const STRIPES: u32 = 16;
 
-pub const LIMIT: u64 = 1 << 30;
-
-/// A store without records.
-pub fn store(alloc: Global, limit: u64) -> Result<Store, NoMemory>
-    ensures { IfOk result IsNew }
-{
-    let records = HashedRecords::new(alloc, 0)?;
-    Ok(TinyRecords::of(alloc, records, 8, true, limit))
-}
-
-fn one(alloc: Global, store: Store) -> Result<StoreList<Store>, NoMemory>
+fn one<S: SeqStore + Drop>(alloc: Global, store: S) -> Result<StoreList<S>, NoMemory>
     ensures { IfOk result (λ xs. xs ≡ store ∷ []) }
 {
     let mut stores = StoreList::new(alloc);
@@ -33,79 +25,91 @@ fn one(alloc: Global, store: Store) -> Result<StoreList<Store>, NoMemory>
 }
 
 /// A database of this store, and the pass that has the whole allowance.
-pub fn alone(
+pub fn alone<S: SeqStore + Drop>(
     alloc: Global,
-    store: Store,
+    store: S,
     base: u64,
     writable: bool,
-) -> Result<(Dbm<Store>, Pass), NoMemory>
-    requires new { IsNew store }
+) -> Result<(Dbm<S>, Pass), NoMemory>
+    requires opened { IsOpened S.stands S.store_view store }
+    requires floor { (S.constants store).writable ≡ true → (S.store_view store).floor ≤ base }
     requires base { base ≤ 2 ^ 62 }
-    ensures { IfOk result (λ d. IsIdle d.0 d.1) }
+    requires writes { writable ≡ true → (S.constants store).writable ≡ true }
+    requires law { (m : List Pair) → S.lawful m ≡ true }
+    ensures { IfOk result (λ d.
+        IsIdleOf S.lawful S.stands S.store_view S.constants d.0 d.1) }
 {
     let stores = one(alloc, store)?;
-    match Dbm::make(alloc, stores, 16, base, writable) {
+    match Dbm::make(alloc, stores, STRIPES, base, writable) {
         Ok(made) => Ok(made),
         Err(_) => Err(NoMemory),
     }
 }
 
-pub fn call<P: RecordProcessor, R: Wait>(
+/// One call of this processor.
+pub fn call<S: SeqStore, P: RecordProcessor, R: Wait>(
     rt: &R,
-    db: &Dbm<Store>,
+    db: &Dbm<S>,
     pass: &mut Pass,
     key: &[u8],
     p: &mut P,
     writable: bool,
 ) -> Answer
-    requires own { IsIdle db.now pass.old }
+    requires own { IsIdleOf S.lawful S.stands S.store_view S.constants db.now pass.old }
     requires key { length key.now ≤ 65535 }
-    ensures own { IsIdle db.now pass.new }
+    requires law { (m : List Pair) → S.lawful m ≡ true }
+    ensures { IsIdleOf S.lawful S.stands S.store_view S.constants db.now pass.new }
 {
     db.process(rt, pass, key, p, writable)
 }
 
-pub fn set<R: Wait>(
+/// Sets the key to a copy of the value.
+pub fn set<S: SeqStore, R: Wait>(
     rt: &R,
     alloc: Global,
-    db: &Dbm<Store>,
+    db: &Dbm<S>,
     pass: &mut Pass,
     key: &[u8],
     value: &[u8],
 ) -> Result<Answer, NoMemory>
-    requires own { IsIdle db.now pass.old }
+    requires own { IsIdleOf S.lawful S.stands S.store_view S.constants db.now pass.old }
     requires key { length key.now ≤ 65535 }
-    ensures own { IsIdle db.now pass.new }
+    requires law { (m : List Pair) → S.lawful m ≡ true }
+    ensures { IsIdleOf S.lawful S.stands S.store_view S.constants db.now pass.new }
 {
     let mut setter = Setter::new(Bytes::from_slice(alloc, value)?);
     Ok(call(rt, db, pass, key, &mut setter, true))
 }
 
 /// The answer, and the value where there is one.
-pub fn get<R: Wait>(
+pub fn get<S: SeqStore, R: Wait>(
     rt: &R,
     alloc: Global,
-    db: &Dbm<Store>,
+    db: &Dbm<S>,
     pass: &mut Pass,
     key: &[u8],
 ) -> (Answer, Option<Bytes>)
-    requires own { IsIdle db.now pass.old }
+    requires own { IsIdleOf S.lawful S.stands S.store_view S.constants db.now pass.old }
     requires key { length key.now ≤ 65535 }
-    ensures own { IsIdle db.now pass.new }
+    requires law { (m : List Pair) → S.lawful m ≡ true }
+    ensures { IsIdleOf S.lawful S.stands S.store_view S.constants db.now pass.new }
 {
     let mut getter = Getter::new(alloc);
     let answer = call(rt, db, pass, key, &mut getter, false);
     (answer, getter.into_value())
 }
 
+/// Whether the call was made under this number, and succeeded.
 pub fn is_done(answer: &Answer, number: u64) -> bool {
     answer.status == Status::Success && answer.number == Some(number)
 }
 
+/// Whether the call ended so without a number.
 pub fn is_refused(answer: &Answer, status: Status) -> bool {
     answer.status == status && answer.number.is_none()
 }
 
+/// Whether there is a value, and these are its bytes.
 pub fn has(value: &Option<Bytes>, bytes: &[u8]) -> bool {
     match value {
         Some(value) => value.as_slice() == bytes,
@@ -113,10 +117,10 @@ pub fn has(value: &Option<Bytes>, bytes: &[u8]) -> bool {
     }
 }
 
-/// A key of one letter with this stripe of 16.
+/// A key of one letter with this stripe.
 pub fn key_of(lock: u32) -> [u8; 1] {
     for byte in 0..255u8 {
-        if stripe(mix(&[byte]), 16) == lock {
+        if stripe(mix(&[byte]), STRIPES) == lock {
             return [byte];
         }
     }

@@ -1,17 +1,20 @@
-//! Processors that tests of the database share.
+//! What tests and measurements of the database share.
 #![tactic(auto)]
 
-mod gated;
+pub mod fixture;
+mod meeting;
 mod tagger;
 
-pub use gated::Gated;
+pub use meeting::Meeting;
 pub use tagger::Tagger;
 
 #[cfg(test)]
 mod closing_tests;
 #[cfg(test)]
-mod fixture;
+mod file_tests;
 #[cfg(test)]
 mod refusal_tests;
+#[cfg(test)]
+mod stores;
 #[cfg(test)]
 mod thread_tests;

@@ -1,17 +1,19 @@
 //! Each refusal, and which comes first.
-ghost use Rattle.tk_dbm_tests.specs.Fixture.{IsIdle};
+ghost use Rattle.tk_dbm.specs.Dbm.{IsIdleOf};
 
-use crate::fixture::{LIMIT, Store, alone, call, get, has, is_done, is_refused, set, store};
+use crate::fixture::{alone, call, get, has, is_done, is_refused, set};
+use crate::stores::{LIMIT, tiny};
 use std::test::*;
 use tk_dbm::{Dbm, Pass};
 use tk_model::Bytes;
 use tk_proc::{Adder, Remover};
 use tk_status::Status;
+use tk_store::SeqStore;
 
 #[test]
 fn a_call_is_seen_by_the_next(rt: HostRuntime) -> Result<(), Fail> {
     let alloc = rt.alloc();
-    let (db, mut pass) = alone(alloc, store(alloc, LIMIT)?, 0, true)?;
+    let (db, mut pass) = alone(alloc, tiny(alloc, LIMIT)?, 0, true)?;
     assert!(rt; is_done(&set(&rt, alloc, &db, &mut pass, b"a", b"1")?, 0));
     let (answer, value) = get(&rt, alloc, &db, &mut pass, b"a");
     assert!(rt; is_done(&answer, 1) && has(&value, b"1"));
@@ -31,10 +33,10 @@ fn a_call_is_seen_by_the_next(rt: HostRuntime) -> Result<(), Fail> {
 }
 
 /// Splits the pass once, and its part so often. All parts but the last join the pass.
-fn last_part(db: &Dbm<Store>, pass: &mut Pass, splits: u32) -> Pass
-    requires { IsIdle db.now pass.old }
-    ensures own { IsIdle db.now pass.new }
-    ensures last { IsIdle db.now result }
+fn last_part<S: SeqStore>(db: &Dbm<S>, pass: &mut Pass, splits: u32) -> Pass
+    requires { IsIdleOf S.lawful S.stands S.store_view S.constants db.now pass.old }
+    ensures own { IsIdleOf S.lawful S.stands S.store_view S.constants db.now pass.new }
+    ensures last { IsIdleOf S.lawful S.stands S.store_view S.constants db.now result }
 {
     let mut last = db.split(pass);
     for _ in 0..splits {
@@ -48,7 +50,7 @@ fn last_part(db: &Dbm<Store>, pass: &mut Pass, splits: u32) -> Pass
 #[test]
 fn only_reading_comes_before_no_allowance(rt: HostRuntime) -> Result<(), Fail> {
     let alloc = rt.alloc();
-    let (db, mut pass) = alone(alloc, store(alloc, LIMIT)?, 0, false)?;
+    let (db, mut pass) = alone(alloc, tiny(alloc, LIMIT)?, 0, false)?;
     let mut last = last_part(&db, &mut pass, 62);
     assert_eq!(rt; last.allowance(), 0);
     assert!(rt;
@@ -74,7 +76,7 @@ fn only_reading_comes_before_no_allowance(rt: HostRuntime) -> Result<(), Fail> {
 #[test]
 fn too_long_comes_before_full(rt: HostRuntime) -> Result<(), Fail> {
     let alloc = rt.alloc();
-    let (db, mut pass) = alone(alloc, store(alloc, 20)?, 0, true)?;
+    let (db, mut pass) = alone(alloc, tiny(alloc, 20)?, 0, true)?;
     assert!(rt; is_done(&set(&rt, alloc, &db, &mut pass, b"a", b"1")?, 0));
     let long = Bytes::from_vec(vec![in alloc; 7u8; 16_777_216]?);
     let answer = set(&rt, alloc, &db, &mut pass, b"a", long.as_slice())?;

@@ -1,9 +1,11 @@
 //! Many threads on one database.
-ghost use Rattle.std.specs.Prelude.{◌≤◌, length};
-ghost use Rattle.tk_dbm_tests.specs.Fixture.{IsIdle};
+ghost use Rattle.std.specs.Prelude.{◌≡◌, ◌≤◌, List, true, length};
+ghost use Rattle.tk_model.specs.declared.record.Pair.{Pair};
+ghost use Rattle.tk_dbm.specs.Dbm.{IsIdleOf};
 
-use crate::fixture::{LIMIT, Store, alone, call, get, is_done, key_of, store};
-use crate::{Gated, Tagger};
+use crate::fixture::{alone, call, get, is_done, key_of};
+use crate::stores::{LIMIT, tiny};
+use crate::{Meeting, Tagger};
 use std::alloc::Global;
 use std::sync::Wait;
 use std::sync::atomic::{AtomicU64, Ordering};
@@ -12,20 +14,22 @@ use std::thread::{self, Threads};
 use tk_dbm::{Dbm, Pass};
 use tk_model::NoMemory;
 use tk_status::Status;
+use tk_store::SeqStore;
 
 /// So many calls, each of which puts the tag behind the value.
-fn tag<R: Wait>(
+fn tag<S: SeqStore, R: Wait>(
     rt: &R,
     alloc: Global,
-    db: &Dbm<Store>,
+    db: &Dbm<S>,
     mut pass: Pass,
     key: &[u8],
     tag: u8,
     count: u32,
 ) -> (Pass, bool)
-    requires own { IsIdle db.now pass }
+    requires own { IsIdleOf S.lawful S.stands S.store_view S.constants db.now pass }
     requires key { length key.now ≤ 65535 }
-    ensures own { IsIdle db.entry.now result.0 }
+    requires law { (m : List Pair) → S.lawful m ≡ true }
+    ensures own { IsIdleOf S.lawful S.stands S.store_view S.constants db.entry.now result.0 }
 {
     let mut done = true;
     for _ in 0..count {
@@ -39,7 +43,7 @@ fn tag<R: Wait>(
 #[test]
 fn two_threads_make_each_call_once(rt: HostRuntime) -> Result<(), Fail> {
     let alloc = rt.alloc();
-    let (db, mut pass) = alone(alloc, store(alloc, LIMIT)?, 0, true)?;
+    let (db, mut pass) = alone(alloc, tiny(alloc, LIMIT)?, 0, true)?;
     let mine = db.split(&mut pass);
     let theirs = db.split(&mut pass);
     let shared = &db;
@@ -66,18 +70,19 @@ fn two_threads_make_each_call_once(rt: HostRuntime) -> Result<(), Fail> {
 }
 
 /// Two threads make so many calls each, at keys of the stripes of their tags.
-fn both<R: Threads + Wait + Sync>(
+fn both<S: SeqStore + Send + Sync, R: Threads + Wait + Sync>(
     rt: &R,
     alloc: Global,
-    db: &Dbm<Store>,
+    db: &Dbm<S>,
     one: (Pass, u8),
     other: (Pass, u8),
     count: u32,
 ) -> (Pass, Pass, bool)
-    requires one { IsIdle db.now one.0 }
-    requires other { IsIdle db.now other.0 }
-    ensures one { IsIdle db.entry.now result.0 }
-    ensures other { IsIdle db.entry.now result.1 }
+    requires one { IsIdleOf S.lawful S.stands S.store_view S.constants db.now one.0 }
+    requires other { IsIdleOf S.lawful S.stands S.store_view S.constants db.now other.0 }
+    requires law { (m : List Pair) → S.lawful m ≡ true }
+    ensures one { IsIdleOf S.lawful S.stands S.store_view S.constants db.entry.now result.0 }
+    ensures other { IsIdleOf S.lawful S.stands S.store_view S.constants db.entry.now result.1 }
 {
     let (one, a) = one;
     let (other, b) = other;
@@ -93,7 +98,7 @@ fn both<R: Threads + Wait + Sync>(
 #[test]
 fn four_threads_share_a_store(rt: HostRuntime) -> Result<(), Fail> {
     let alloc = rt.alloc();
-    let (db, mut pass) = alone(alloc, store(alloc, LIMIT)?, 0, true)?;
+    let (db, mut pass) = alone(alloc, tiny(alloc, LIMIT)?, 0, true)?;
     let first = db.split(&mut pass);
     let second = db.split(&mut pass);
     let third = db.split(&mut pass);
@@ -119,18 +124,19 @@ fn four_threads_share_a_store(rt: HostRuntime) -> Result<(), Fail> {
 }
 
 /// One call of this processor, and whether it was made.
-fn meet<R: Wait>(
+fn meet<S: SeqStore, R: Wait>(
     rt: &R,
-    db: &Dbm<Store>,
+    db: &Dbm<S>,
     mut pass: Pass,
     key: &[u8],
-    mut gated: Gated,
+    mut meeting: Meeting,
 ) -> (Pass, bool)
-    requires own { IsIdle db.now pass }
+    requires own { IsIdleOf S.lawful S.stands S.store_view S.constants db.now pass }
     requires key { length key.now ≤ 65535 }
-    ensures own { IsIdle db.entry.now result.0 }
+    requires law { (m : List Pair) → S.lawful m ≡ true }
+    ensures own { IsIdleOf S.lawful S.stands S.store_view S.constants db.entry.now result.0 }
 {
-    let answer = call(rt, db, &mut pass, key, &mut gated, false);
+    let answer = call(rt, db, &mut pass, key, &mut meeting, false);
     (pass, answer.status == Status::Success)
 }
 
@@ -145,15 +151,15 @@ fn met<R: Threads + Wait + Sync>(
     requires one { length one.now ≤ 65535 }
     requires other { length other.now ≤ 65535 }
 {
-    let (db, mut pass) = alone(alloc, store(alloc, LIMIT)?, 0, true)?;
+    let (db, mut pass) = alone(alloc, tiny(alloc, LIMIT)?, 0, true)?;
     let mine = db.split(&mut pass);
     let shared = &db;
     let (word, met) = (AtomicU64::new(0), AtomicU64::new(0));
     let (word, met) = (&word, &met);
     let ((mine, a), (mut pass, b)) = thread::join(
         rt,
-        || meet(rt, shared, mine, one, Gated { word, met, turns }),
-        || meet(rt, shared, pass, other, Gated { word, met, turns }),
+        || meet(rt, shared, mine, one, Meeting { word, met, turns }),
+        || meet(rt, shared, pass, other, Meeting { word, met, turns }),
     );
     db.join(&mut pass, mine);
     let closed = db.close(pass);

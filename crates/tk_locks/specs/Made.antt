@@ -18,12 +18,12 @@ use Rattle.tk_locks.specs.declared.home.Home.{Home}
 use Rattle.tk_locks.specs.View.{View, Under, of_store}
 use Rattle.tk_locks.specs.Rule.{Began, records_in, Risen}
 
--- each store is there, unbroken and not closed, in the set's order, and has the records of its shard alone; the contents meet the law
+-- each store is there, unbroken and not closed, in the set's order, and has the records of its shard alone where it tells them; the contents meet the law
 pub record Fresh {T : Type 0} (law : List Pair → Bool) (stands : T → First → List Group → ℕ → Type 0) (store_view : T → StoreView) (constants : T → StoreConstants) (f : Frame) (xs : List (Option (Home T))) : Type 0 where
   pub long : length xs ≡ f.stores
   pub there : (i : ℕ) (x : Option (Home T)) → get_elem? xs i ≡ some x → (h : Home T) × (x ≡ Some h) × (h.broken ≡ None) × ((store_view h.store).closed ≡ false) × ((constants h.store).writable ≡ true → (store_view h.store).floor ≤ f.base) × ((first : First) × stands h.store first [] 0)
   pub order : (i : ℕ) (h : Home T) → get_elem? xs i ≡ some (Some h) → (constants h.store).order ≡ f.order
-  pub shards : (i : ℕ) (first : First) → Began stands xs i first → first.records ≡ shard_records (shard f i) (records_in f.order store_view xs)
+  pub shards : (i : ℕ) (first : First) (b : Began stands xs i first) → is_some (store_view b.0.store).map ≡ true → first.records ≡ shard_records (shard f i) (records_in f.order store_view xs)
   pub rising : Rising f.order (records_in f.order store_view xs)
   pub lawful : law (records_in f.order store_view xs) ≡ true
 

@@ -22,6 +22,7 @@ use crate::rule::{
 use crate::table::LockTable;
 use crate::view::Seen;
 use atomic_table::Seat;
+use crossbeam_utils::Backoff;
 use std::sync::Wait;
 use tk_store::SeqStore;
 
@@ -86,10 +87,12 @@ impl<S: SeqStore> LockTable<S> {
         ensures own { IsSameSeat seat.old seat.new }
         ensures step { TakesStripe S.lawful S.store_view J.ground lock (at seat.old) (at seat.new) }
     {
+        let backoff = Backoff::new();
         for _ in rt.forever() {
             if self.try_take_stripe_as::<J>(seat, lock) {
                 return;
             }
+            backoff.snooze();
         }
         unreachable!()
     }
@@ -108,10 +111,12 @@ impl<S: SeqStore> LockTable<S> {
         ensures step { TakesStore S.lawful S.stands S.store_view S.constants S.fault_count J.ground
             i (at seat.old) result (at seat.new) }
     {
+        let backoff = Backoff::new();
         for _ in rt.forever() {
             if let Some(home) = self.try_take_store_as::<J>(seat, i) {
                 return home;
             }
+            backoff.snooze();
         }
         unreachable!()
     }

@@ -1,8 +1,8 @@
-use Rattle.tk_dbm_tests.specs.Fixture.{IsIdle}
+use Rattle.tk_dbm.specs.Dbm.{IsIdleOf}
 use Rattle.tk_dbm_tests.proofs.refusal_tests.last_part.Given as goal
 
 abbrev pub invariant-loop : goal.invariant-loop
-invariant-loop l = record {
-  own : IsIdle l.db l.pass;
-  last : IsIdle l.db l.last;
+invariant-loop g l = record {
+  own : IsIdleOf g.S.SeqStore.lawful g.S.SeqStore.stands g.S.SeqStore.store_view g.S.SeqStore.constants l.db l.pass;
+  last : IsIdleOf g.S.SeqStore.lawful g.S.SeqStore.stands g.S.SeqStore.store_view g.S.SeqStore.constants l.db l.last;
 }

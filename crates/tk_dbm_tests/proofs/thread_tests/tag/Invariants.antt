@@ -1,5 +1,5 @@
-use Rattle.tk_dbm_tests.specs.Fixture.{IsIdle}
+use Rattle.tk_dbm.specs.Dbm.{IsIdleOf}
 use Rattle.tk_dbm_tests.proofs.thread_tests.tag.Given as goal
 
 abbrev pub invariant-loop : goal.invariant-loop
-invariant-loop g l = IsIdle l.db l.pass
+invariant-loop g l = IsIdleOf g.S.SeqStore.lawful g.S.SeqStore.stands g.S.SeqStore.store_view g.S.SeqStore.constants l.db l.pass

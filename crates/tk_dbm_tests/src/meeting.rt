@@ -5,13 +5,13 @@ use tk_proc::RecordProcessor;
 
 /// Keeps what is there. It comes to the word, and waits some turns for another to come; `met` counts those to whom one came.
 #[derive(Drop)]
-pub struct Gated<'a> {
+pub struct Meeting<'a> {
     pub word: &'a AtomicU64,
     pub met: &'a AtomicU64,
     pub turns: u32,
 }
 
-impl Gated<'_> {
+impl Meeting<'_> {
     fn wait(&self) {
         self.word.fetch_add(1, Ordering::SeqCst);
         for _ in 0..self.turns {
@@ -24,7 +24,7 @@ impl Gated<'_> {
     }
 }
 
-impl RecordProcessor for Gated<'_> {
+impl RecordProcessor for Meeting<'_> {
     ghost use Rattle.tk_model.specs.declared.record.Action.TheVariants.{Keep};
 
     ghost acts = { λ p k was. Keep };
