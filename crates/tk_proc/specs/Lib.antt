@@ -1,3 +1,4 @@
 pub mod Replies
+pub mod Increments
 pub mod Runs
 pub mod RunLaws

@@ -1,10 +1,16 @@
 //! Record processors: what is to become of a record, by the value that it has.
 #![tactic(auto)]
 
+mod append;
+mod count;
+mod exchange;
 mod law;
 mod processor;
 mod ready;
 
+pub use append::Appender;
+pub use count::Counter;
+pub use exchange::{Desired, Exchanger, Expected};
 pub use law::runs_are_legal;
 pub use processor::{RecordProcessor, ask};
 pub use ready::{Adder, Getter, Remover, Setter};

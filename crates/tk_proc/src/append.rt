@@ -1,0 +1,62 @@
+ghost use Rattle.std.specs.Prelude.{◌≡◌, ℕ, List, Option};
+ghost use Rattle.tk_proc.specs.Replies.{append_reply};
+
+use crate::RecordProcessor;
+use std::alloc::Global;
+use std::marker::Model;
+use tk_model::{Action, Bytes, NoMemory};
+use tk_status::Status;
+
+/// Stores a value behind the one that is there, with a delimiter between the two.
+#[derive(Debug, Drop)]
+pub struct Appender {
+    alloc: Global,
+    value: Bytes,
+    delim: Bytes,
+}
+
+impl Model for Appender {
+    ghost use Rattle.tk_proc.specs.Replies.{Appending};
+
+    ghost Value = { Appending };
+
+    ghost view = { λ a. record { value = a.value; delim = a.delim } };
+}
+
+impl Appender {
+    /// An appender of this value, and of this delimiter in front of it where there is a value.
+    pub fn new(alloc: Global, value: Bytes, delim: Bytes) -> Appender
+        ensures { result ≡ record { value = value; delim = delim } }
+    {
+        Appender {
+            alloc,
+            value,
+            delim,
+        }
+    }
+
+    /// The answer of the last call.
+    pub fn status(&self) -> Status
+        ensures { (was : Option (List ℕ))
+            → result ≡ (append_reply self.now.value self.now.delim was).status }
+    {
+        Status::Success
+    }
+}
+
+impl RecordProcessor for Appender {
+    ghost acts = { λ a k was. (append_reply a.value a.delim was).action };
+
+    ghost turns = { λ a k was. a };
+
+    fn process_full(&mut self, _: &[u8], value: &[u8]) -> Result<Action, NoMemory> {
+        let mut longer = Bytes::from_slice(self.alloc, value)?;
+        longer.extend(self.delim.as_slice())?;
+        longer.extend(self.value.as_slice())?;
+        Ok(Action::Put(longer))
+    }
+
+    fn process_empty(&mut self, _: &[u8]) -> Result<Action, NoMemory> {
+        Ok(Action::Put(self.value.clone()?))
+    }
+}
