@@ -1,4 +1,5 @@
 pub mod Replies
 pub mod Increments
+pub mod Members
 pub mod Runs
 pub mod RunLaws

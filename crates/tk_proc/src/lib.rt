@@ -4,14 +4,18 @@
 mod append;
 mod count;
 mod exchange;
+mod gates;
 mod law;
+mod list;
 mod processor;
 mod ready;
 
 pub use append::Appender;
 pub use count::Counter;
 pub use exchange::{Desired, Exchanger, Expected};
+pub use gates::{At, Gate, OpenGate};
 pub use law::runs_are_legal;
+pub use list::ProcList;
 pub use processor::{RecordProcessor, ask};
 pub use ready::{Adder, Getter, Remover, Setter};
 
