@@ -1,2 +1,3 @@
 pub mod LegalRuns
 pub mod Answering
+pub mod ReplyLaws

@@ -1,5 +1,6 @@
 pub mod Replies
 pub mod Increments
 pub mod Members
+pub mod ReplyLaws
 pub mod Runs
 pub mod RunLaws

@@ -18,13 +18,12 @@ members_code {P} code =
 abbrev pub all_members : {P : Type 0} → Members P → List P
 all_members l = l.asked ++ l.waiting
 
-module _ {P : Type 0} (acts : P → List ℕ → Option (List ℕ) → Action) (turns : P → List ℕ → Option (List ℕ) → P) where
-  -- the first that waits answers; where none does, the record stays
-  abbrev pub first_acts : (waiting : List P) → List ℕ → Option (List ℕ) → Action
-  first_acts [] k was = Keep
-  first_acts (p ∷ ps) k was = acts p k was
+-- the first that waits answers; where none does, the record stays
+abbrev pub first_acts : {P : Type 0} → (P → List ℕ → Option (List ℕ) → Action) → (waiting : List P) → List ℕ → Option (List ℕ) → Action
+first_acts acts [] k was = Keep
+first_acts acts (p ∷ ps) k was = acts p k was
 
-  -- it had its call then
-  abbrev pub first_turns : (asked waiting : List P) → List ℕ → Option (List ℕ) → Members P
-  first_turns asked [] k was = record { asked = asked; waiting = [] }
-  first_turns asked (p ∷ ps) k was = record { asked = asked ++ turns p k was ∷ []; waiting = ps }
+-- behind that it had its call
+abbrev pub first_turns : {P : Type 0} → (P → List ℕ → Option (List ℕ) → P) → (asked waiting : List P) → List ℕ → Option (List ℕ) → Members P
+first_turns turns asked [] k was = record { asked = asked; waiting = [] }
+first_turns turns asked (p ∷ ps) k was = record { asked = asked ++ turns p k was ∷ []; waiting = ps }

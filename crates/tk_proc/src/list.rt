@@ -87,9 +87,9 @@ impl<P: Drop> ProcList<P> {
 impl<P: RecordProcessor> ProcList<P> {
     /// Hands a call to the next member.
     fn hand(&mut self, key: &[u8], value: Option<&[u8]>) -> Result<Action, NoMemory>
-        ensures action { IfOk result (λ a. a ≡ first_acts P.acts P.turns self.old.waiting key.now
+        ensures action { IfOk result (λ a. a ≡ first_acts P.acts self.old.waiting key.now
             (option_copied value.entry)) }
-        ensures turned { OnOk result (self.new ≡ first_turns P.acts P.turns self.old.asked
+        ensures turned { OnOk result (self.new ≡ first_turns P.turns self.old.asked
             self.old.waiting key.now (option_copied value.entry)) }
         ensures err { OnErr result (self.new ≡ self.old) }
     {
@@ -103,9 +103,9 @@ impl<P: RecordProcessor> ProcList<P> {
 }
 
 impl<P: RecordProcessor> RecordProcessor for ProcList<P> {
-    ghost acts = { λ l k was. first_acts P.acts P.turns l.waiting k was };
+    ghost acts = { λ l k was. first_acts P.acts l.waiting k was };
 
-    ghost turns = { λ l k was. first_turns P.acts P.turns l.asked l.waiting k was };
+    ghost turns = { λ l k was. first_turns P.turns l.asked l.waiting k was };
 
     fn process_full(&mut self, key: &[u8], value: &[u8]) -> Result<Action, NoMemory> {
         self.hand(key, Some(value))
