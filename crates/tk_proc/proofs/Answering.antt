@@ -1,6 +1,5 @@
 -- What runs of processors answer.
 use Rattle.std.proofs.Common.{◌≡◌, ℕ, Bool, true, false, List, [], ◌∷◌, map, Option, Some, None, refl, sym, ap, subst, ◌∙◌, if◌then◌else◌}
-use Rattle.tk_status.specs.declared.Status.{Status}
 use Rattle.tk_status.specs.declared.Status.TheVariants.{Success, NotFound, TooLong}
 use Rattle.tk_model.specs.Records.{find, named, first_within, last_within, or_else, reaches, Rising}
 use Rattle.tk_model.specs.Entries.{stored, written_keys}
@@ -12,8 +11,7 @@ use Rattle.tk_model.specs.declared.record.Pair.{Pair}
 use Rattle.tk_model.specs.declared.record.Touch.{Touch}
 use Rattle.tk_model.specs.declared.record.Action.{Action}
 use Rattle.tk_model.specs.Entries.{changes_of}
-use Rattle.tk_model.specs.declared.record.Entry.TheVariants as entries
-use Rattle.tk_proc.specs.Runs.{counted, is_long, first_long, kept, touches_by, status_by, keys_of, status_unless_long, run_touches, keys_entry, each_entry, run_status, run_state, each_status, each_state, found_status, found_state, next_status, next_state}
+use Rattle.tk_proc.specs.Runs.{counted, is_long, first_long, kept, touches_by, status_by, keys_of, status_unless_long, run_touches, keys_entry, each_entry, run_status, run_state, each_status, found_status, found_state, next_status, next_state}
 use Rattle.tk_proc.proofs.LegalRuns.{AllFound, all_found}
 
 -- the first that is too long, of one

@@ -1,10 +1,9 @@
 -- Expected values and stored numbers.
-use Rattle.std.proofs.Common.{◌≡◌, ℕ, ◌+◌, ◌^◌, ◌<◌, Bool, true, false, nat_lt, ◌==◌, List, length, Option, Some, None, ℤ, pos, negsuc, ◌+ℤ◌, FitsSigned, w64, refl, sym, ap, ◌∙◌, rules, arith, if◌then◌else◌}
+use Rattle.std.proofs.Common.{◌≡◌, ℕ, ◌^◌, ◌<◌, Bool, true, false, ◌==◌, List, length, Option, Some, None, ℤ, pos, negsuc, ◌+ℤ◌, FitsSigned, w64, refl, sym, ap, ◌∙◌, rules}
 use Rattle.std.proofs.lemmas.Nat.{from_be_bytes-to_be_bytes_8}
-use Rattle.std.proofs.lemmas.Int.{ints, to_z-of_z}
+use Rattle.std.proofs.lemmas.Int.{to_z-of_z}
 use Rattle.std.specs.Int.{cast_signed, cast_unsigned}
-use Rattle.tk_model.specs.declared.record.Action.{Action}
-use Rattle.tk_model.specs.declared.record.Action.TheVariants.{Keep, Put}
+use Rattle.tk_model.specs.declared.record.Action.TheVariants.{Put}
 use Rattle.tk_proc.specs.Increments.{number_in, number_bytes, is_in_64_bits, reads_alone, sum_reply, increment_at, increment_reply}
 
 pub eight_bytes : (z : ℤ) → length (number_bytes z) ≡ 8

@@ -56,5 +56,5 @@ pub record Counting : Type 0 where
   pub number : Option ℤ
 
 -- a counter behind a call
-abbrev pub counted : Counting → NumberReply → Counting
-counted c r = record { by = c.by; initial = c.initial; status = r.status; number = r.number }
+abbrev pub counting_after : Counting → NumberReply → Counting
+counting_after c r = record { by = c.by; initial = c.initial; status = r.status; number = r.number }

@@ -33,14 +33,14 @@ pub record Adding : Type 0 where
   pub value : List ℕ
   pub found : Bool
 
-abbrev pub append_reply : (value delim : List ℕ) → Option (List ℕ) → Reply
+abbrev pub append_reply : (value delimiter : List ℕ) → Option (List ℕ) → Reply
 append_reply x d (Some v) = record { status = Success; value = None; action = Put (v ++ d ++ x) }
 append_reply x d None = record { status = Success; value = None; action = Put x }
 
--- what an appender holds: its value, and what stands between that and the old one
+-- what an appender holds: its value, and what stands between the old one and that
 pub record Appending : Type 0 where
   pub value : List ℕ
-  pub delim : List ℕ
+  pub delimiter : List ℕ
 
 -- a record is as expected: absent, there with any value, or there with this value alone
 abbrev pub is_met : Expected → Option (List ℕ) → Bool

@@ -1,5 +1,5 @@
 -- What replies keep.
-use Rattle.std.specs.Prelude.{◌≡◌, ℕ, Bool, true, List, length, Option, Some, ℤ}
+use Rattle.std.specs.Prelude.{◌≡◌, ℕ, true, List, length, Option, Some, ℤ}
 use Rattle.tk_model.specs.declared.record.Action.TheVariants.{Put}
 use Rattle.tk_proc.specs.Replies.{is_met}
 use Rattle.tk_proc.specs.Increments.{number_in, number_bytes, is_in_64_bits, increment_at, increment_reply}

@@ -12,7 +12,7 @@ use tk_status::Status;
 pub struct Appender {
     alloc: Global,
     value: Bytes,
-    delim: Bytes,
+    delimiter: Bytes,
 }
 
 impl Model for Appender {
@@ -20,38 +20,38 @@ impl Model for Appender {
 
     ghost Value = { Appending };
 
-    ghost view = { λ a. record { value = a.value; delim = a.delim } };
+    ghost view = { λ a. record { value = a.value; delimiter = a.delimiter } };
 }
 
 impl Appender {
     /// An appender of this value, and of this delimiter in front of it where there is a value.
     pub fn new(alloc: Global, value: Bytes, delim: Bytes) -> Appender
-        ensures { result ≡ record { value = value; delim = delim } }
+        ensures { result ≡ record { value = value; delimiter = delim } }
     {
         Appender {
             alloc,
             value,
-            delim,
+            delimiter: delim,
         }
     }
 
     /// The answer of the last call.
     pub fn status(&self) -> Status
         ensures { (was : Option (List ℕ))
-            → result ≡ (append_reply self.now.value self.now.delim was).status }
+            → result ≡ (append_reply self.now.value self.now.delimiter was).status }
     {
         Status::Success
     }
 }
 
 impl RecordProcessor for Appender {
-    ghost acts = { λ a k was. (append_reply a.value a.delim was).action };
+    ghost acts = { λ a k was. (append_reply a.value a.delimiter was).action };
 
     ghost turns = { λ a k was. a };
 
     fn process_full(&mut self, _: &[u8], value: &[u8]) -> Result<Action, NoMemory> {
         let mut longer = Bytes::from_slice(self.alloc, value)?;
-        longer.extend(self.delim.as_slice())?;
+        longer.extend(self.delimiter.as_slice())?;
         longer.extend(self.value.as_slice())?;
         Ok(Action::Put(longer))
     }

@@ -1,5 +1,5 @@
 ghost use Rattle.std.specs.Prelude.{◌≡◌, None, IfOk, OnOk, OnErr};
-ghost use Rattle.tk_proc.specs.Increments.{increment_at, increment_reply, counted};
+ghost use Rattle.tk_proc.specs.Increments.{increment_at, increment_reply, counting_after};
 
 use crate::RecordProcessor;
 use std::alloc::Global;
@@ -59,7 +59,7 @@ impl Counter {
     #[tactic(auto, unfolding(crate::specs::Increments::number_bytes))]
     fn count_from(&mut self, number: i64) -> Result<Action, NoMemory>
         ensures action { IfOk result (λ a. a ≡ (increment_at self.old.by number).action) }
-        ensures turned { OnOk result (self.new ≡ counted self.old (increment_at self.old.by
+        ensures turned { OnOk result (self.new ≡ counting_after self.old (increment_at self.old.by
             number)) }
         ensures err { OnErr result (self.new ≡ self.old) }
     {
@@ -83,7 +83,7 @@ impl Counter {
 impl RecordProcessor for Counter {
     ghost acts = { λ c k was. (increment_reply c.by c.initial was).action };
 
-    ghost turns = { λ c k was. counted c (increment_reply c.by c.initial was) };
+    ghost turns = { λ c k was. counting_after c (increment_reply c.by c.initial was) };
 
     #[tactic(auto, unfolding(crate::specs::Increments::number_in))]
     fn process_full(&mut self, _: &[u8], value: &[u8]) -> Result<Action, NoMemory> {

@@ -11,16 +11,22 @@ use tk_status::Status;
 /// What a record is expected to be.
 #[derive(Clone, Debug, Drop)]
 pub enum Expected {
+    /// Met by no record.
     Absent,
+    /// Met by a record of any value.
     Any,
+    /// Met by a record of this value alone.
     Value(Bytes),
 }
 
 /// What is to become of a record that is as expected.
 #[derive(Clone, Debug, Drop)]
 pub enum Desired {
+    /// There is to be no record.
     Remove,
+    /// The record stays as it is.
     Leave,
+    /// The record is to have this value.
     Value(Bytes),
 }
 

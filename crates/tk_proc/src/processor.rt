@@ -12,11 +12,13 @@ pub trait RecordProcessor {
     /// The processor after that.
     ghost turns: { Self → List ℕ → Option (List ℕ) → Self };
 
+    /// The action at a record of this value.
     fn process_full(&mut self, key: &[u8], value: &[u8]) -> Result<Action, NoMemory>
         ensures action { IfOk result (λ a. a ≡ acts self.old key.now (Some value.now)) }
         ensures turned { OnOk result (self.new ≡ turns self.old key.now (Some value.now)) }
         ensures err { OnErr result (self.new ≡ self.old) };
 
+    /// The action at a key that has no record.
     fn process_empty(&mut self, key: &[u8]) -> Result<Action, NoMemory>
         ensures action { IfOk result (λ a. a ≡ acts self.old key.now None) }
         ensures turned { OnOk result (self.new ≡ turns self.old key.now None) }

@@ -26,6 +26,7 @@ impl Model for Getter {
 }
 
 impl Getter {
+    /// A getter that has read nothing.
     pub fn new(alloc: Global) -> Getter
         ensures { result ≡ None }
     {
@@ -92,6 +93,7 @@ impl Model for Setter {
 }
 
 impl Setter {
+    /// A setter of this value.
     pub fn new(value: Bytes) -> Setter
         ensures { result ≡ value }
     {
@@ -136,6 +138,7 @@ impl Model for Adder {
 }
 
 impl Adder {
+    /// An adder of this value that has found nothing.
     pub fn new(value: Bytes) -> Adder
         ensures value { result.value ≡ value }
         ensures found { result.found ≡ false }
@@ -191,6 +194,7 @@ impl Model for Remover {
 }
 
 impl Remover {
+    /// A remover that has found nothing.
     pub fn new() -> Remover
         ensures { result ≡ false }
     {

@@ -323,9 +323,9 @@ fn a_list_that_stores(rt: HostRuntime) -> Result<(), Fail> {
 
 /// Adds up the lines that pass it.
 #[derive(Drop)]
-struct Adding(AtomicU64);
+struct Tally(AtomicU64);
 
-impl Gate for Adding {
+impl Gate for Tally {
     fn pass(&self, worker: u32, line: u64) {
         self.0.fetch_add(
             u64::from(worker).wrapping_mul(100).wrapping_add(line),
@@ -336,7 +336,7 @@ impl Gate for Adding {
 
 #[test]
 fn gates(rt: HostRuntime) -> Result<(), Fail> {
-    let gate = Adding(AtomicU64::new(0));
+    let gate = Tally(AtomicU64::new(0));
     let at = At {
         gate: &gate,
         worker: 3,
