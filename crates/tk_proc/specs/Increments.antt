@@ -24,6 +24,7 @@ is_in_64_bits (negsuc n) = nat_lt n (2 ^ 63)
 abbrev pub reads_alone : ℤ → Bool
 reads_alone n = int_eq n (negsuc (2 ^ 63 - 1))
 
+-- what an increment answers, and what becomes of the record
 pub record NumberReply : Type 0 where
   pub status : Status
   pub number : Option ℤ
@@ -39,6 +40,7 @@ sum_reply sum =
     if is_in_64_bits sum then record { status = Success; number = Some sum; action = Put (number_bytes sum) }
     else record { status = Infeasible; number = None; action = Keep }
 
+-- at the number of a record
 abbrev pub increment_at : (n number : ℤ) → NumberReply
 increment_at n number = if reads_alone n then read_reply number else sum_reply (number +ℤ n)
 

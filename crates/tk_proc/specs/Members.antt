@@ -23,7 +23,7 @@ abbrev pub first_acts : {P : Type 0} → (P → List ℕ → Option (List ℕ) �
 first_acts acts [] k was = Keep
 first_acts acts (p ∷ ps) k was = acts p k was
 
--- behind that it had its call
+-- behind that call it is one of those that had theirs
 abbrev pub first_turns : {P : Type 0} → (P → List ℕ → Option (List ℕ) → P) → (asked waiting : List P) → List ℕ → Option (List ℕ) → Members P
 first_turns turns asked [] k was = record { asked = asked; waiting = [] }
 first_turns turns asked (p ∷ ps) k was = record { asked = asked ++ turns p k was ∷ []; waiting = ps }

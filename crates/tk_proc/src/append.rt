@@ -50,7 +50,9 @@ impl RecordProcessor for Appender {
     ghost turns = { λ a k was. a };
 
     fn process_full(&mut self, _: &[u8], value: &[u8]) -> Result<Action, NoMemory> {
-        let mut longer = Bytes::from_slice(self.alloc, value)?;
+        let behind = self.delimiter.len().saturating_add(self.value.len());
+        let mut longer = Bytes::with_capacity(self.alloc, value.len().saturating_add(behind))?;
+        longer.extend(value)?;
         longer.extend(self.delimiter.as_slice())?;
         longer.extend(self.value.as_slice())?;
         Ok(Action::Put(longer))

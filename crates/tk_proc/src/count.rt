@@ -27,7 +27,7 @@ impl Model for Counter {
 }
 
 impl Counter {
-    /// A counter that adds `n`, or reads where `n` is the least number. An absent record counts as `initial`.
+    /// A counter that adds `n`, or reads where it is -2^63; an absent record counts as `initial`.
     pub fn new(alloc: Global, n: i64, initial: i64) -> Counter
         ensures { result
             ≡ record { by = n; initial = initial; status = Status.Success; number = None } }

@@ -11,7 +11,7 @@ use tk_status::Status;
 /// What a record is expected to be.
 #[derive(Clone, Debug, Drop)]
 pub enum Expected {
-    /// Met by no record.
+    /// Met where there is no record.
     Absent,
     /// Met by a record of any value.
     Any,
