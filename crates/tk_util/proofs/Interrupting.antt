@@ -48,10 +48,10 @@ untorn_from : (a b : StaticHead) (p : Past) (c : List ℕ) → a.p ≡ b.p → (
 untorn_from a b p c same zero q u = tt
 untorn_from a b p c same (suc n) q u = ((λ e is. let k = u.0 e is in (known_head a b p q e same k.0, untorn_from a b p c same n (q + e) k.1)), (λ d is. known_body a b p q d same (u.1 d is)))
 
-untorn_by : (a b : StaticHead) (p : Past) (c : List ℕ) → a.p ≡ b.p → IsUntornBy a p c → IsUntornBy b p c
+pub untorn_by : (a b : StaticHead) (p : Past) (c : List ℕ) → a.p ≡ b.p → IsUntornBy a p c → IsUntornBy b p c
 untorn_by a b p c same u = record { header = u.header; blocks = subst (λ (m : ℕ). UntornFrom (length c) b p (base_of m) c) same (untorn_from a b p c same (length c) (base_of a.p) u.blocks) }
 
-take_none : (n : ℕ) → take {A = Group} n [] ≡ []
+pub take_none : (n : ℕ) → take {A = Group} n [] ≡ []
 take_none zero = refl
 take_none (suc n) = refl
 
@@ -69,7 +69,7 @@ front_added n next changes since (inl e) = inl (ap (λ (l : List Group). take n 
 front_added n next changes since (inr e) = subst (λ (l : List Group). (take n l ≡ []) ⊎ (take n l ≡ group_of next changes)) (sym e) (take_group n next changes)
 
 -- so the records are those before the call, or those after it
-restores_either : (next : ℕ) (changes : List Change) (groups since : List Group) (c : List ℕ) → MayAdd next changes since → RestoresTo groups since 0 c → RestoresEither groups (group_of next changes) c
+pub restores_either : (next : ℕ) (changes : List Change) (groups since : List Group) (c : List ℕ) → MayAdd next changes since → RestoresTo groups since 0 c → RestoresEither groups (group_of next changes) c
 restores_either next changes groups since c may r =
     elim (front_added r.count next changes since may) [
       | inl e ↦ inl (ap (λ (l : List Group). replay Hash l []) (r.front ∙ (ap (λ (l : List Group). groups ++ l) e ∙ append-nil groups)))
@@ -81,12 +81,12 @@ module _ {D : Type 0} (image : D → Option (List ℕ)) (may_leave : D → List 
   pub interrupted_at : (a : Option (List ℕ)) (disk : D) (s u : HashStore D) (v : D) (w : Bool) (changes : List Pair → List Change)
       → IfSome a (λ f. first_fault (1 ∷ []) w alone f ≡ None) → Opened image may_leave past s a → s.writable ≡ w → w ≡ true → is_some (image (hash_disk s)) ≡ is_some a → v ≡ hash_disk u
       → is_some (map_in image u) ≡ is_some (map_in image s) → hash_constants u ≡ hash_constants s → moment disk ≤ moment (hash_disk s) → moment (hash_disk s) ≤ moment (hash_disk u)
-      → ((groups : List Group) → HashStands image may_leave past s (opening groups) [] 0 → IfSome (image (hash_disk s)) (λ f. SafeSince image may_leave past moment left_since left_with s u groups (changes (replay Hash groups []))))
+      → ((groups : List Group) → HashStands image may_leave past s (opening groups) [] 0 → IfSome (image (hash_disk s)) (λ f. SafeSince image may_leave past moment left_since left_with s u (moment (hash_disk s)) groups (changes (replay Hash groups []))))
       → IfSome a (λ f. Interrupts (λ groups. changes (replay Hash groups [])) f (moment disk) (moment v) (may_leave disk) (left_since disk) (left_since v) (left_with v))
   interrupted_at None disk s u v w changes accepted opened mode may told same still constants first last safe = tt
   interrupted_at (Some f) disk s u v w changes accepted opened mode may told same still constants first last safe =
       let groups : List Group = opened.0 in
-      let all : SafeSince image may_leave past moment left_since left_with s u groups (changes (replay Hash groups [])) = known (image (hash_disk s)) _ told (safe groups opened.1) in
+      let all : SafeSince image may_leave past moment left_since left_with s u (moment (hash_disk s)) groups (changes (replay Hash groups [])) = known (image (hash_disk s)) _ told (safe groups opened.1) in
       let there : is_some (image (hash_disk u)) ≡ true = unmapped _ _ (image (hash_disk s)) (image (hash_disk u)) still ∙ told in
       let restores : (x : Past × List ℕ) → left_with (hash_disk u) (moment (hash_disk s)) x → IsUntornBy (hash_head s) x.0 x.1 → RestoresTo groups all.0 0 x.1 =
       λ x l untorn. known (image (hash_disk u)) _ there (all.2.each (ap (λ (n : StoreConstants). n.writable) constants ∙ (mode ∙ may))) x l

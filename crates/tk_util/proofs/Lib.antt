@@ -1,5 +1,6 @@
 pub mod CallSteps
 pub mod Crashing
+pub mod CutShort
 pub mod Endings
 pub mod GetEndings
 pub mod Interrupting

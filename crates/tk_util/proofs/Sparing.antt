@@ -79,7 +79,7 @@ unmapped f g None (Some y) told = told
 unmapped f g (Some x) None told = told
 unmapped f g (Some x) (Some y) told = told
 
-always : (o : Option (List ℕ)) (A : Type 0) → A → IfSome o (λ f. A)
+pub always : (o : Option (List ℕ)) (A : Type 0) → A → IfSome o (λ f. A)
 always None A a = tt
 always (Some f) A a = a
 
@@ -92,15 +92,15 @@ pub has_header : (f : List ℕ) → HoldsDatabase true f → f ≢ []
 has_header f holds e = absurd (cc (subst (λ (x : List ℕ). first_fault (1 ∷ []) true alone x ≡ None) e holds.accepted, empty_fault))
 
 module _ {D : Type 0} (image : D → Option (List ℕ)) (may_leave : D → List ℕ → Type 0) (past : D → Past) (moment : D → ℕ) (left_since : D → ℕ → List ℕ → Type 0) (left_with : D → ℕ → Past × List ℕ → Type 0) where
-  -- a store is safe since the moment of one before, with the groups that a call may add
-  abbrev pub SafeSince : (s u : HashStore D) → List Group → List Change → Type 0
-  SafeSince s u groups changes = (since : List Group) × MayAdd s.next changes since × HashSafe image left_since left_with u (moment (hash_disk s)) (opening groups) since 0
+  -- a store is safe since a time before the call, with the groups that it may add
+  abbrev pub SafeSince : (s u : HashStore D) → (t : ℕ) → List Group → List Change → Type 0
+  SafeSince s u t groups changes = (since : List Group) × MayAdd s.next changes since × HashSafe image left_since left_with u t (opening groups) since 0
 
-  module _ (only : (d : D) (c : List ℕ) → left_since d (moment d) c → may_leave d c) (with : (d : D) (x : Past × List ℕ) → left_with d (moment d) x → (x.0 ≡ past d) × may_leave d x.1)
-      (back : (d : D) (t : ℕ) (x : Past × List ℕ) → left_with d t x → left_since d t x.1) (s : HashStore D) (groups : List Group) (st : HashStands image may_leave past s (opening groups) [] 0)
+  module _ (s : HashStore D) (t : ℕ) (groups : List Group) (since_then : HashKeptSince image may_leave past moment left_since left_with s t 0 (opening groups) [] 0)
       (changes : List Pair → List Change) (number : ℕ) (numbered : number ≡ s.next) where
-    kept_since : HashKeptSince image may_leave past moment left_since left_with s (moment (hash_disk s)) 0 (opening groups) [] 0
-    kept_since = hash_stood_now image may_leave past moment left_since left_with only with back s (opening groups) [] 0 st
+    -- the records before it
+    map_before : IfSome (image (hash_disk s)) (λ f. map_in image s ≡ Some (replay Hash groups []))
+    map_before = map_is image may_leave past s groups since_then.stands
 
     -- those of the call
     added : group_of number (changes (replay Hash groups [])) ≡ group_of s.next (changes (replay Hash groups []))
@@ -108,44 +108,51 @@ module _ {D : Type 0} (image : D → Option (List ℕ)) (may_leave : D → List 
 
     -- after a call that failed
     pub safe_failed : (u : HashStore D) → IfSome (map_in image s) (λ m. LeavesSafe (HashKeptSince image may_leave past moment left_since left_with) (HashSafe image left_since left_with) (group_of number (changes m)) s u)
-        → IfSome (image (hash_disk s)) (λ f. SafeSince s u groups (changes (replay Hash groups [])))
+        → IfSome (image (hash_disk s)) (λ f. SafeSince s u t groups (changes (replay Hash groups [])))
     safe_failed u leaves =
         told_map (image (hash_disk s)) (map_in image s) (replay Hash groups []) (λ m. LeavesSafe (HashKeptSince image may_leave past moment left_since left_with) (HashSafe image left_since left_with) (group_of number (changes m)) s u)
-        (SafeSince s u groups (changes (replay Hash groups [])))
-        (map_is image may_leave past s groups st) leaves (λ safe. (group_of number (changes (replay Hash groups [])), inr added, safe (moment (hash_disk s)) 0 (opening groups) [] 0 kept_since))
+        (SafeSince s u t groups (changes (replay Hash groups [])))
+        map_before leaves (λ safe. (group_of number (changes (replay Hash groups [])), inr added, safe t 0 (opening groups) [] 0 since_then))
 
     -- after one that was made, and the end
-    pub safe_made : (t u : HashStore D)
+    pub safe_made : (v u : HashStore D)
         → IfSome (map_in image s) (λ m. (at n : ℕ) (first : First) (since : List Group) (hard : ℕ) → HashKeptSince image may_leave past moment left_since left_with s at n first since hard
-        → HashKeptSince image may_leave past moment left_since left_with t at n first (since ++ group_of number (changes m)) hard)
-        → LeavesSafe (HashKeptSince image may_leave past moment left_since left_with) (HashSafe image left_since left_with) [] t u → IfSome (image (hash_disk s)) (λ f. SafeSince s u groups (changes (replay Hash groups [])))
-    safe_made t u grown leaves =
+        → HashKeptSince image may_leave past moment left_since left_with v at n first (since ++ group_of number (changes m)) hard)
+        → LeavesSafe (HashKeptSince image may_leave past moment left_since left_with) (HashSafe image left_since left_with) [] v u → IfSome (image (hash_disk s)) (λ f. SafeSince s u t groups (changes (replay Hash groups [])))
+    safe_made v u grown leaves =
         told_map (image (hash_disk s)) (map_in image s) (replay Hash groups [])
         (λ m. (at n : ℕ) (first : First) (since : List Group) (hard : ℕ) → HashKeptSince image may_leave past moment left_since left_with s at n first since hard
-        → HashKeptSince image may_leave past moment left_since left_with t at n first (since ++ group_of number (changes m)) hard) (SafeSince s u groups (changes (replay Hash groups [])))
-        (map_is image may_leave past s groups st) grown
+        → HashKeptSince image may_leave past moment left_since left_with v at n first (since ++ group_of number (changes m)) hard) (SafeSince s u t groups (changes (replay Hash groups [])))
+        map_before grown
         (λ on. (
           group_of number (changes (replay Hash groups [])) ++ [],
           inr (append-nil (group_of number (changes (replay Hash groups []))) ∙ added),
-          leaves (moment (hash_disk s)) 0 (opening groups) (group_of number (changes (replay Hash groups []))) 0 (on (moment (hash_disk s)) 0 (opening groups) [] 0 kept_since),
+          leaves t 0 (opening groups) (group_of number (changes (replay Hash groups []))) 0 (on t 0 (opening groups) [] 0 since_then),
         ))
 
     -- after one that was refused, and the end
-    pub safe_refused : (t u : HashStore D) → ((at n : ℕ) (first : First) (since : List Group) (hard : ℕ) → HashKeptSince image may_leave past moment left_since left_with s at n first since hard
-        → HashKeptSince image may_leave past moment left_since left_with t at n first since hard)
-        → LeavesSafe (HashKeptSince image may_leave past moment left_since left_with) (HashSafe image left_since left_with) [] t u → IfSome (image (hash_disk s)) (λ f. SafeSince s u groups (changes (replay Hash groups [])))
-    safe_refused t u kept leaves = always (image (hash_disk s)) (SafeSince s u groups (changes (replay Hash groups [])))
-        ([], inl refl, leaves (moment (hash_disk s)) 0 (opening groups) [] 0 (kept (moment (hash_disk s)) 0 (opening groups) [] 0 kept_since))
+    pub safe_refused : (v u : HashStore D) → ((at n : ℕ) (first : First) (since : List Group) (hard : ℕ) → HashKeptSince image may_leave past moment left_since left_with s at n first since hard
+        → HashKeptSince image may_leave past moment left_since left_with v at n first since hard)
+        → LeavesSafe (HashKeptSince image may_leave past moment left_since left_with) (HashSafe image left_since left_with) [] v u → IfSome (image (hash_disk s)) (λ f. SafeSince s u t groups (changes (replay Hash groups [])))
+    safe_refused v u kept leaves = always (image (hash_disk s)) (SafeSince s u t groups (changes (replay Hash groups [])))
+        ([], inl refl, leaves t 0 (opening groups) [] 0 (kept t 0 (opening groups) [] 0 since_then))
+
+  -- at the opening, where it is safe since any time since when it was kept
+  pub safe_opened : ((d : D) (c : List ℕ) → left_since d (moment d) c → may_leave d c) → ((d : D) (x : Past × List ℕ) → left_with d (moment d) x → (x.0 ≡ past d) × may_leave d x.1)
+      → ((d : D) (t : ℕ) (x : Past × List ℕ) → left_with d t x → left_since d t x.1) → (s u : HashStore D) (changes : List Pair → List Change)
+      → ((groups : List Group) (t : ℕ) → HashKeptSince image may_leave past moment left_since left_with s t 0 (opening groups) [] 0 → IfSome (image (hash_disk s)) (λ f. SafeSince s u t groups (changes (replay Hash groups []))))
+      → (groups : List Group) → HashStands image may_leave past s (opening groups) [] 0 → IfSome (image (hash_disk s)) (λ f. SafeSince s u (moment (hash_disk s)) groups (changes (replay Hash groups [])))
+  safe_opened only with back s u changes safe groups st = safe groups (moment (hash_disk s)) (hash_stood_now image may_leave past moment left_since left_with only with back s (opening groups) [] 0 st)
 
   module _ (counts : (d : D) (t : ℕ) (c : List ℕ) → t ≤ moment d → may_leave d c → left_since d t c) where
     -- a file that was opened is spared
     pub spared_at : (a : Option (List ℕ)) (s u : HashStore D) (v : D) (left : List ℕ → Type 0) → Opened image may_leave past s a → s.writable ≡ true → is_some (image (hash_disk s)) ≡ is_some a → v ≡ hash_disk u
         → is_some (map_in image u) ≡ is_some (map_in image s) → hash_constants u ≡ hash_constants s → moment (hash_disk s) ≤ moment (hash_disk u)
-        → (changes : List Pair → List Change) → ((groups : List Group) → HashStands image may_leave past s (opening groups) [] 0 → IfSome (image (hash_disk s)) (λ f. SafeSince s u groups (changes (replay Hash groups [])))) → IfSome a (λ f. Spares f left (may_leave v))
+        → (changes : List Pair → List Change) → ((groups : List Group) → HashStands image may_leave past s (opening groups) [] 0 → IfSome (image (hash_disk s)) (λ f. SafeSince s u (moment (hash_disk s)) groups (changes (replay Hash groups [])))) → IfSome a (λ f. Spares f left (may_leave v))
     spared_at None s u v left opened may told same still constants later changes safe = tt
     spared_at (Some f) s u v left opened may told same still constants later changes safe = λ holds before c leaves.
         let groups : List Group = opened.0 in
-        let all : SafeSince s u groups (changes (replay Hash groups [])) = known (image (hash_disk s)) _ told (safe groups opened.1) in
+        let all : SafeSince s u (moment (hash_disk s)) groups (changes (replay Hash groups [])) = known (image (hash_disk s)) _ told (safe groups opened.1) in
         let there : is_some (image (hash_disk u)) ≡ true = unmapped _ _ (image (hash_disk s)) (image (hash_disk u)) still ∙ told in
         let kept : (c : List ℕ) → left_since (hash_disk u) (moment (hash_disk s)) c → IsKept (hash_head u) (groups ++ []) c = known (image (hash_disk u)) _ there (all.2.kept (ap (λ (n : StoreConstants). n.writable) constants ∙ may)) in
         let now : may_leave (hash_disk u) c = subst (λ (d : D). may_leave d c) same leaves in

@@ -1,6 +1,7 @@
 pub mod Asked
 pub mod Calls
 pub mod Counts
+pub mod CutShort
 pub mod Done
 pub mod Ends
 pub mod Interrupted

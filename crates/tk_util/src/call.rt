@@ -6,6 +6,7 @@ ghost use Rattle.tk_model.specs.declared.record.Group.{Group};
 ghost use Rattle.tk_disk.specs.Crash.{Only};
 ghost use Rattle.tk_disk.specs.Disk.{Rose};
 ghost use Rattle.tk_util.specs.Counts.{HasCause};
+ghost use Rattle.tk_util.specs.CutShort.{IsCutShortSince};
 ghost use Rattle.tk_util.specs.Interrupted.{MayAdd, Interrupts};
 ghost use Rattle.tk_store.specs.OneRecord.{call_changes};
 ghost use Rattle.tk_model.specs.Records.{replay};
@@ -156,13 +157,13 @@ fn call_on<D: Disk, P: RecordProcessor>(
         → D.image (hash_disk store.new)
         ≡ Some (closed_text (hash_head store.old) groups (hash_constants store.old).next)) }
     ensures taken { (place : ℕ) → result ≡ Err (Stop.Refused place) → ⊥ }
-    ensures safe { (groups : List Group)
-        → HashStands D.image D.may_leave D.past store.old (opening groups) [] 0
+    ensures safe { (groups : List Group) (t : ℕ)
+        → HashKeptSince D.image D.may_leave D.past D.moment D.left_since D.left_with store.old t 0
+        (opening groups) [] 0
         → IfSome (D.image (hash_disk store.old)) (λ _.
         (since : List Group) × MayAdd (hash_constants store.old).next
         (call_changes P.acts p.old key.now (replay Hash groups [])) since
-        × HashSafe D.image D.left_since D.left_with store.new (D.moment (hash_disk store.old))
-        (opening groups) since 0) }
+        × HashSafe D.image D.left_since D.left_with store.new t (opening groups) since 0) }
     ensures crash { (hash_constants store.old).writable ≡ true
         → CrashDone result (D.may_leave (hash_disk store.old)) (D.may_leave (hash_disk store.new))
         (D.image (hash_disk store.new)) }
@@ -224,6 +225,11 @@ pub(crate) fn run_call<D: Disk, P: RecordProcessor>(
         Interrupts (λ groups. call_changes P.acts p.old key.now (replay Hash groups [])) f
         (D.moment disk) (D.moment result.disk)
         (D.may_leave disk) (D.left_since disk) (D.left_since result.disk)
+        (D.left_with result.disk)) }
+    ensures cut_short { writable ≡ true
+        → IfSome (D.image disk) (λ f.
+        IsCutShortSince (λ groups. call_changes P.acts p.old key.now (replay Hash groups [])) f
+        (D.moment disk) (D.moment result.disk) (D.left_since disk) (D.left_with disk)
         (D.left_with result.disk)) }
     ensures makes { writable ≡ true
         → IfSome (D.image disk) (λ f. f ≡ []

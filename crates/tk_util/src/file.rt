@@ -5,6 +5,7 @@ ghost use Rattle.tk_disk.specs.Folder.{NoneOut, SameBut, SameHistory, KeepsHisto
 ghost use Rattle.tk_util.specs.Asked.{file_said, IsWithinLimits};
 ghost use Rattle.tk_util.specs.Calls.{Spares};
 ghost use Rattle.tk_util.specs.Counts.{HasCause, HasExactCause, RoseIn, EndsByCounts};
+ghost use Rattle.tk_util.specs.CutShort.{CutsCommandShort};
 ghost use Rattle.tk_util.specs.Done.{CommandDone, CrashLeft, NotTaken, RanOnFile};
 ghost use Rattle.tk_util.specs.Interrupted.{InterruptsCommand};
 ghost use Rattle.tk_util.specs.Leaves.{LeavesToCrash, OthersWithin};
@@ -85,6 +86,9 @@ fn call_command<D: Disk>(
         InterruptsCommand (file_said command.entry) f (D.moment disk) (D.moment result.disk)
         (D.may_leave disk) (D.left_since disk) (D.left_since result.disk)
         (D.left_with result.disk)) }
+    ensures cut_short { IfSome (D.image disk) (λ f.
+        CutsCommandShort (file_said command.entry) f (D.moment disk) (D.moment result.disk)
+        (D.past disk) (D.may_leave disk) (D.left_with result.disk)) }
     ensures makes { (files : List ℕ → Option (List ℕ)) → IfSome (D.image disk) (λ f. f ≡ []
         → Makes (file_said command.entry) files (D.past disk) (D.moment disk) (D.moment result.disk)
         (D.left_with result.disk)) }
@@ -128,6 +132,14 @@ fn run_unprinted<F: Folder>(
         (F.leaves folder.old (file_of (file_said command.entry)))
         (F.left_since folder.old (file_of (file_said command.entry)))
         (F.left_since folder.new (file_of (file_said command.entry)))
+        (F.left_with folder.new (file_of (file_said command.entry))) }
+    ensures cut_short { F.tells folder.old ≡ true
+        → CutsCommandShort (file_said command.entry)
+        (or_empty (F.file folder.old (file_of (file_said command.entry))))
+        (F.moment_of folder.old (file_of (file_said command.entry)))
+        (F.moment_of folder.new (file_of (file_said command.entry)))
+        (F.past_of folder.old (file_of (file_said command.entry)))
+        (F.leaves folder.old (file_of (file_said command.entry)))
         (F.left_with folder.new (file_of (file_said command.entry))) }
     ensures makes { F.tells folder.old ≡ true
         → or_empty (F.file folder.old (file_of (file_said command.entry))) ≡ []
@@ -184,6 +196,14 @@ pub(crate) fn run_on_file<F: Folder, W: Sink>(
         (F.leaves folder.old (file_of (file_said command.entry)))
         (F.left_since folder.old (file_of (file_said command.entry)))
         (F.left_since folder.new (file_of (file_said command.entry)))
+        (F.left_with folder.new (file_of (file_said command.entry))) }
+    ensures cut_short { F.tells folder.old ≡ true
+        → CutsCommandShort (file_said command.entry)
+        (or_empty (F.file folder.old (file_of (file_said command.entry))))
+        (F.moment_of folder.old (file_of (file_said command.entry)))
+        (F.moment_of folder.new (file_of (file_said command.entry)))
+        (F.past_of folder.old (file_of (file_said command.entry)))
+        (F.leaves folder.old (file_of (file_said command.entry)))
         (F.left_with folder.new (file_of (file_said command.entry))) }
     ensures makes { F.tells folder.old ≡ true
         → or_empty (F.file folder.old (file_of (file_said command.entry))) ≡ []

@@ -4,6 +4,7 @@ ghost use Rattle.tk_disk.specs.Crash.{Within};
 ghost use Rattle.tk_proc.specs.Replies.{remove_reply};
 ghost use Rattle.tk_util.specs.Calls.{Spares};
 ghost use Rattle.tk_util.specs.Counts.{HasCause};
+ghost use Rattle.tk_util.specs.CutShort.{IsCutShort};
 ghost use Rattle.tk_util.specs.Done.{CallDone, CrashDone, GetDone};
 ghost use Rattle.tk_util.specs.Interrupted.{Interrupts};
 ghost use Rattle.tk_util.specs.Making.{AtEachMoment, IsUnmadeMoment};
@@ -48,6 +49,9 @@ pub(crate) fn remove_from<D: Disk>(alloc: Global, disk: D, key: &[u8]) -> Called
         (D.moment result.disk)
         (D.may_leave disk) (D.left_since disk) (D.left_since result.disk)
         (D.left_with result.disk)) }
+    ensures cut_short { IfSome (D.image disk) (λ f.
+        IsCutShort (λ groups. reply_changes remove_reply groups key.now) f (D.moment disk)
+        (D.moment result.disk) (D.past disk) (D.may_leave disk) (D.left_with result.disk)) }
     ensures makes { IfSome (D.image disk) (λ f. f ≡ []
         → AtEachMoment (IsUnmadeMoment (D.past disk)) (D.moment disk) (D.moment result.disk)
         (D.left_with result.disk)) }

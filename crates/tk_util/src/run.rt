@@ -3,6 +3,7 @@ ghost use Rattle.tk_disk.specs.Crash.{Within, Only};
 ghost use Rattle.tk_disk.specs.Disk.{Rose};
 ghost use Rattle.tk_disk.specs.Folder.{NoneOut, or_empty};
 ghost use Rattle.tk_util.specs.Calls.{Spares};
+ghost use Rattle.tk_util.specs.CutShort.{CutsCommandShort};
 ghost use Rattle.tk_util.specs.Interrupted.{InterruptsCommand};
 ghost use Rattle.tk_util.specs.Leaves.{OthersWithin};
 ghost use Rattle.tk_util.specs.Making.{IsMakingMoment, Makes};
@@ -60,6 +61,12 @@ pub fn run_util<F: Folder, R: Source, W: Sink>(
         (F.moment_of folder.old (file_of c)) (F.moment_of folder.new (file_of c))
         (F.leaves folder.old (file_of c)) (F.left_since folder.old (file_of c))
         (F.left_since folder.new (file_of c)) (F.left_with folder.new (file_of c)) }
+    ensures cut_short { (c : Command) → command_of (words_of words.now) ≡ Some c
+        → F.tells folder.old ≡ true
+        → CutsCommandShort c (or_empty (F.file folder.old (file_of c)))
+        (F.moment_of folder.old (file_of c)) (F.moment_of folder.new (file_of c))
+        (F.past_of folder.old (file_of c)) (F.leaves folder.old (file_of c))
+        (F.left_with folder.new (file_of c)) }
     ensures makes { (c : Command) → command_of (words_of words.now) ≡ Some c
         → F.tells folder.old ≡ true → or_empty (F.file folder.old (file_of c)) ≡ []
         → Makes c (F.file folder.old) (F.past_of folder.old (file_of c))

@@ -4,6 +4,7 @@ ghost use Rattle.tk_disk.specs.Disk.{HasFaultCause};
 ghost use Rattle.tk_proc.specs.Replies.{set_reply};
 ghost use Rattle.tk_util.specs.Calls.{Spares};
 ghost use Rattle.tk_util.specs.Counts.{HasCause};
+ghost use Rattle.tk_util.specs.CutShort.{IsCutShort, IsCutShortSince};
 ghost use Rattle.tk_util.specs.Done.{CallDone, CrashDone, SetDone};
 ghost use Rattle.tk_util.specs.Interrupted.{Interrupts};
 ghost use Rattle.tk_util.specs.Making.{AtEachMoment, IsSettingMoment};
@@ -92,6 +93,10 @@ fn set_more<D: Disk>(alloc: Global, disk: D, key: &[u8], value: &[u8]) -> Called
         (D.moment disk) (D.moment result.disk)
         (D.may_leave disk) (D.left_since disk) (D.left_since result.disk)
         (D.left_with result.disk)) }
+    ensures cut_short { IfSome (D.image disk) (λ f.
+        IsCutShortSince (λ groups. reply_changes (set_reply value.now true) groups key.now) f
+        (D.moment disk) (D.moment result.disk) (D.left_since disk) (D.left_with disk)
+        (D.left_with result.disk)) }
     ensures cause { HasCause Stop.Fault (D.fault_count disk) (D.fault_count result.disk)
         result.answer }
 {
@@ -122,6 +127,10 @@ pub(crate) fn set_on<D: Disk>(alloc: Global, mut disk: D, key: &[u8], value: &[u
         reply_changes (set_reply value.now true) groups key.now) f (D.moment disk)
         (D.moment result.disk)
         (D.may_leave disk) (D.left_since disk) (D.left_since result.disk)
+        (D.left_with result.disk)) }
+    ensures cut_short { IfSome (D.image disk) (λ f.
+        IsCutShort (λ groups. reply_changes (set_reply value.now true) groups key.now) f
+        (D.moment disk) (D.moment result.disk) (D.past disk) (D.may_leave disk)
         (D.left_with result.disk)) }
     ensures makes { IfSome (D.image disk) (λ f. f ≡ []
         → AtEachMoment (IsSettingMoment key.now value.now (D.past disk)) (D.moment disk)

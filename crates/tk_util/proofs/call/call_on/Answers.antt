@@ -27,40 +27,40 @@ returns-in_ok-end_call-in-Err-NoMemory-clause-no_memory g c = λ groups stands.
     (λ after same. after)
 
 pub returns-in_ok-end_call-in-Ok-clause-safe : goal.returns-in_ok-end_call-in-Ok-clause-safe
-returns-in_ok-end_call-in-Ok-clause-safe g c = λ groups stands.
-    safe_made g.D.Disk.image g.D.Disk.may_leave g.D.Disk.past g.D.Disk.moment g.D.Disk.left_since g.D.Disk.left_with g.met.D.Disk.only_now g.met.D.Disk.only_with g.met.D.Disk.since_with c.args.store.now groups stands
+returns-in_ok-end_call-in-Ok-clause-safe g c = λ groups t since.
+    safe_made g.D.Disk.image g.D.Disk.may_leave g.D.Disk.past g.D.Disk.moment g.D.Disk.left_since g.D.Disk.left_with c.args.store.now t groups since
     (call_changes g.P.RecordProcessor.acts c.args.p.now c.args.key.now) c.next_number-next.result c.next_number-next.ensures c.run_on.new.store c.end_call.new.store c.in-Ok.ensures.since c.end_call.ensures.safe
 
 pub returns-in_ok-end_call-in-Err-Full-clause-safe : goal.returns-in_ok-end_call-in-Err-Full-clause-safe
-returns-in_ok-end_call-in-Err-Full-clause-safe g c = λ groups stands.
-    safe_refused g.D.Disk.image g.D.Disk.may_leave g.D.Disk.past g.D.Disk.moment g.D.Disk.left_since g.D.Disk.left_with g.met.D.Disk.only_now g.met.D.Disk.only_with g.met.D.Disk.since_with c.args.store.now groups stands
+returns-in_ok-end_call-in-Err-Full-clause-safe g c = λ groups t since.
+    safe_refused g.D.Disk.image g.D.Disk.may_leave g.D.Disk.past g.D.Disk.moment g.D.Disk.left_since g.D.Disk.left_with c.args.store.now t groups since
     (call_changes g.P.RecordProcessor.acts c.args.p.now c.args.key.now) c.next_number-next.result c.next_number-next.ensures c.run_on.new.store c.end_call-in-Err-Full.new.store
     (full_tells Status _ c.in-Err-Full.field-0 _ _ _ c.in-Err-Full.field-0-is c.in-Err-Full.ensures.refused).1 c.end_call-in-Err-Full.ensures.safe
 
 pub returns-in_ok-end_call-in-Err-NoMemory-clause-safe : goal.returns-in_ok-end_call-in-Err-NoMemory-clause-safe
-returns-in_ok-end_call-in-Err-NoMemory-clause-safe g c = λ groups stands.
-    safe_refused g.D.Disk.image g.D.Disk.may_leave g.D.Disk.past g.D.Disk.moment g.D.Disk.left_since g.D.Disk.left_with g.met.D.Disk.only_now g.met.D.Disk.only_with g.met.D.Disk.since_with c.args.store.now groups stands
+returns-in_ok-end_call-in-Err-NoMemory-clause-safe g c = λ groups t since.
+    safe_refused g.D.Disk.image g.D.Disk.may_leave g.D.Disk.past g.D.Disk.moment g.D.Disk.left_since g.D.Disk.left_with c.args.store.now t groups since
     (call_changes g.P.RecordProcessor.acts c.args.p.now c.args.key.now) c.next_number-next.result c.next_number-next.ensures c.run_on.new.store c.end_call-in-Err-NoMemory.new.store
     (memory_tells Status _ c.in-Err-NoMemory.field-0 c.in-Err-NoMemory.field-0-is c.in-Err-NoMemory.ensures.refused).1 c.end_call-in-Err-NoMemory.ensures.safe
 
 pub returns-in_err-end_call-in-Ok-clause-safe : goal.returns-in_err-end_call-in-Ok-clause-safe
-returns-in_err-end_call-in-Ok-clause-safe g c = λ groups stands.
-    safe_made g.D.Disk.image g.D.Disk.may_leave g.D.Disk.past g.D.Disk.moment g.D.Disk.left_since g.D.Disk.left_with g.met.D.Disk.only_now g.met.D.Disk.only_with g.met.D.Disk.since_with c.args.store.now groups stands
+returns-in_err-end_call-in-Ok-clause-safe g c = λ groups t since.
+    safe_made g.D.Disk.image g.D.Disk.may_leave g.D.Disk.past g.D.Disk.moment g.D.Disk.left_since g.D.Disk.left_with c.args.store.now t groups since
     (call_changes g.P.RecordProcessor.acts c.args.p.now c.args.key.now) c.next_number-next.result c.next_number-next.ensures c.run_on.new.store c.end_call.new.store c.in-Ok.ensures.since c.end_call.ensures.safe
 
 pub returns-in_err-end_call-in-Err-Full-clause-safe : goal.returns-in_err-end_call-in-Err-Full-clause-safe
-returns-in_err-end_call-in-Err-Full-clause-safe g c = λ groups stands.
-    safe_refused g.D.Disk.image g.D.Disk.may_leave g.D.Disk.past g.D.Disk.moment g.D.Disk.left_since g.D.Disk.left_with g.met.D.Disk.only_now g.met.D.Disk.only_with g.met.D.Disk.since_with c.args.store.now groups stands
+returns-in_err-end_call-in-Err-Full-clause-safe g c = λ groups t since.
+    safe_refused g.D.Disk.image g.D.Disk.may_leave g.D.Disk.past g.D.Disk.moment g.D.Disk.left_since g.D.Disk.left_with c.args.store.now t groups since
     (call_changes g.P.RecordProcessor.acts c.args.p.now c.args.key.now) c.next_number-next.result c.next_number-next.ensures c.run_on.new.store c.end_call-in-Err-Full.new.store
     (full_tells Status _ c.in-Err-Full.field-0 _ _ _ c.in-Err-Full.field-0-is c.in-Err-Full.ensures.refused).1 c.end_call-in-Err-Full.ensures.safe
 
 pub returns-in_err-end_call-in-Err-NoMemory-clause-safe : goal.returns-in_err-end_call-in-Err-NoMemory-clause-safe
-returns-in_err-end_call-in-Err-NoMemory-clause-safe g c = λ groups stands.
-    safe_refused g.D.Disk.image g.D.Disk.may_leave g.D.Disk.past g.D.Disk.moment g.D.Disk.left_since g.D.Disk.left_with g.met.D.Disk.only_now g.met.D.Disk.only_with g.met.D.Disk.since_with c.args.store.now groups stands
+returns-in_err-end_call-in-Err-NoMemory-clause-safe g c = λ groups t since.
+    safe_refused g.D.Disk.image g.D.Disk.may_leave g.D.Disk.past g.D.Disk.moment g.D.Disk.left_since g.D.Disk.left_with c.args.store.now t groups since
     (call_changes g.P.RecordProcessor.acts c.args.p.now c.args.key.now) c.next_number-next.result c.next_number-next.ensures c.run_on.new.store c.end_call-in-Err-NoMemory.new.store
     (memory_tells Status _ c.in-Err-NoMemory.field-0 c.in-Err-NoMemory.field-0-is c.in-Err-NoMemory.ensures.refused).1 c.end_call-in-Err-NoMemory.ensures.safe
 
 pub returns-in-Err-Fault-clause-safe : goal.returns-in-Err-Fault-clause-safe
-returns-in-Err-Fault-clause-safe g c = λ groups stands.
-    safe_failed g.D.Disk.image g.D.Disk.may_leave g.D.Disk.past g.D.Disk.moment g.D.Disk.left_since g.D.Disk.left_with g.met.D.Disk.only_now g.met.D.Disk.only_with g.met.D.Disk.since_with c.args.store.now groups stands
+returns-in-Err-Fault-clause-safe g c = λ groups t since.
+    safe_failed g.D.Disk.image g.D.Disk.may_leave g.D.Disk.past g.D.Disk.moment g.D.Disk.left_since g.D.Disk.left_with c.args.store.now t groups since
     (call_changes g.P.RecordProcessor.acts c.args.p.now c.args.key.now) c.next_number-next.result c.next_number-next.ensures c.run_on.new.store c.run_on.ensures.safe

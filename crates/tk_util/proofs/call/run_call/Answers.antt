@@ -1,12 +1,13 @@
-use Rattle.std.proofs.Common.{◌≡◌, Some, ◌∙◌}
+use Rattle.std.proofs.Common.{◌≡◌, Some, refl, ◌∙◌}
 use Rattle.tk_store.specs.OneRecord.{call_changes}
 use Rattle.tk_util.specs.Calls.{RefusedAt}
 use Rattle.tk_hash.specs.Hash.{hash_disk}
 use Rattle.tk_util.proofs.CallSteps.{made_at, no_room_at, memory_at, no_place}
 use Rattle.tk_util.proofs.Crashing.{crash_opened, crash_unopened, still_opened}
+use Rattle.tk_util.proofs.CutShort.{opened_cut, unopened_cut}
 use Rattle.tk_util.proofs.Interrupting.{interrupted_at, unopened_at}
 use Rattle.tk_util.proofs.Making.{empty_refused, unopened_unmade}
-use Rattle.tk_util.proofs.Sparing.{spared_at, spared_back}
+use Rattle.tk_util.proofs.Sparing.{spared_at, spared_back, safe_opened}
 use Rattle.tk_util.proofs.call.run_call.Goals as goal
 
 pub returns-clause-made : goal.returns-clause-made
@@ -23,7 +24,8 @@ pub returns-clause-spared : goal.returns-clause-spared
 returns-clause-spared g c = λ may.
     spared_at g.D.Disk.image g.D.Disk.may_leave g.D.Disk.past g.D.Disk.moment g.D.Disk.left_since g.D.Disk.left_with g.met.D.Disk.counts_now (g.D.Disk.image c.args.disk) c.in-Ok.store c.call_on-answer.new.store c.into_disk.result (g.D.Disk.may_leave c.args.disk)
     c.in-Ok.ensures.opened (c.in-Ok.ensures.mode.0 ∙ may) c.in-Ok.ensures.told c.into_disk.ensures c.call_on-answer.ensures.told c.call_on-answer.ensures.constants c.call_on-answer.ensures.time
-    (call_changes g.P.RecordProcessor.acts c.args.p.now c.args.key.now) c.call_on-answer.ensures.safe
+    (call_changes g.P.RecordProcessor.acts c.args.p.now c.args.key.now)
+    (safe_opened g.D.Disk.image g.D.Disk.may_leave g.D.Disk.past g.D.Disk.moment g.D.Disk.left_since g.D.Disk.left_with g.met.D.Disk.only_now g.met.D.Disk.only_with g.met.D.Disk.since_with c.in-Ok.store c.call_on-answer.new.store (call_changes g.P.RecordProcessor.acts c.args.p.now c.args.key.now) c.call_on-answer.ensures.safe)
 
 pub returns-in-Err-clause-spared : goal.returns-in-Err-clause-spared
 returns-in-Err-clause-spared g c = λ may.
@@ -58,11 +60,22 @@ pub returns-clause-crashes : goal.returns-clause-crashes
 returns-clause-crashes g c = λ may.
     interrupted_at g.D.Disk.image g.D.Disk.may_leave g.D.Disk.past g.D.Disk.moment g.D.Disk.left_since g.D.Disk.left_with (g.D.Disk.image c.args.disk) c.args.disk c.in-Ok.store c.call_on-answer.new.store c.into_disk.result c.args.writable
     (call_changes g.P.RecordProcessor.acts c.args.p.now c.args.key.now) c.in-Ok.ensures.exact c.in-Ok.ensures.opened c.in-Ok.ensures.mode.0 may c.in-Ok.ensures.told c.into_disk.ensures c.call_on-answer.ensures.told c.call_on-answer.ensures.constants
-    c.in-Ok.ensures.time.later c.call_on-answer.ensures.time c.call_on-answer.ensures.safe
+    c.in-Ok.ensures.time.later c.call_on-answer.ensures.time
+    (safe_opened g.D.Disk.image g.D.Disk.may_leave g.D.Disk.past g.D.Disk.moment g.D.Disk.left_since g.D.Disk.left_with g.met.D.Disk.only_now g.met.D.Disk.only_with g.met.D.Disk.since_with c.in-Ok.store c.call_on-answer.new.store (call_changes g.P.RecordProcessor.acts c.args.p.now c.args.key.now) c.call_on-answer.ensures.safe)
 
 pub returns-in-Err-clause-crashes : goal.returns-in-Err-clause-crashes
 returns-in-Err-clause-crashes g c = λ may.
     unopened_at g.D.Disk.image g.D.Disk.may_leave g.D.Disk.past g.D.Disk.moment g.D.Disk.left_since g.D.Disk.left_with (g.D.Disk.image c.args.disk) _ c.args.disk _ c.in-Err.ensures.back_time
+
+pub returns-clause-cut_short : goal.returns-clause-cut_short
+returns-clause-cut_short g c = λ may.
+    opened_cut g.D.Disk.image g.D.Disk.may_leave g.D.Disk.past g.D.Disk.moment g.D.Disk.left_since g.D.Disk.left_with g.met.D.Disk.counts_now g.met.D.Disk.counts_with g.met.D.Disk.reads_left g.met.D.Disk.since_with (g.D.Disk.image c.args.disk) c.args.disk c.in-Ok.store c.call_on-answer.new.store c.into_disk.result c.args.writable
+    (call_changes g.P.RecordProcessor.acts c.args.p.now c.args.key.now) refl c.in-Ok.ensures.opened c.in-Ok.ensures.mode.0 may c.in-Ok.ensures.told c.into_disk.ensures c.call_on-answer.ensures.told c.call_on-answer.ensures.constants
+    c.in-Ok.ensures.last c.in-Ok.ensures.time c.in-Ok.ensures.pasts c.call_on-answer.ensures.time c.call_on-answer.ensures.safe
+
+pub returns-in-Err-clause-cut_short : goal.returns-in-Err-clause-cut_short
+returns-in-Err-clause-cut_short g c = λ may.
+    unopened_cut g.D.Disk.image g.D.Disk.may_leave g.D.Disk.past g.D.Disk.moment g.D.Disk.left_since g.D.Disk.left_with g.met.D.Disk.counts_now g.met.D.Disk.counts_with g.met.D.Disk.reads_left g.met.D.Disk.since_with (g.D.Disk.image c.args.disk) _ c.args.disk _ refl c.in-Err.ensures.back_time c.in-Err.ensures.back_pasts
 
 pub returns-clause-makes : goal.returns-clause-makes
 returns-clause-makes g c = λ may. empty_refused (g.D.Disk.image c.args.disk) c.args.writable _ c.in-Ok.ensures.exact

@@ -8,11 +8,13 @@ use Rattle.tk_status.specs.declared.finish.Finish.{Finish}
 use Rattle.tk_util.specs.Asked.{file_said}
 use Rattle.tk_util.specs.Ends.{call_end}
 use Rattle.tk_util.specs.Done.{NotTaken, RanOnFile}
+use Rattle.tk_util.specs.CutShort.{CutsCommandShort}
 use Rattle.tk_util.specs.Interrupted.{InterruptsCommand}
 use Rattle.tk_util.specs.Leaves.{LeavesToCrash, OthersWithin}
 use Rattle.tk_util.specs.Making.{Makes}
 use Rattle.tk_util.specs.Ran.{IsClearEnd, creates, file_of, writes}
 use Rattle.tk_util.specs.World.{World}
+use Rattle.tk_util.proofs.CutShort.{taken_cut, untaken_cut}
 use Rattle.tk_util.proofs.Interrupting.{not_taken_through, taken_through}
 use Rattle.tk_util.proofs.Making.{taken_makes, untaken_makes}
 use Rattle.tk_util.proofs.Endings.{no_fault, rose_moved, two_names}
@@ -116,6 +118,19 @@ returns-clause-crashes g c = λ tells.
     (g.F.Folder.leaves c.args.folder.now n) (g.F.Folder.left_since c.args.folder.now n) (g.F.Folder.left_since c.give-given.new.self n) (g.F.Folder.left_with c.give-given.new.self n)) c.file.ensures
     (taken_through _ _ _ _ _ _ _ _ _ _ _ _ _ _ _ _ _ _ _ _ c.in-Ok.ensures.crash (given_back g c) (file_said c.args.command) (or_empty (g.F.Folder.file c.args.folder.now c.file.result.now)) (g.F.D.Disk.image c.in-Ok.disk) (c.in-Ok.ensures.image tells)
     c.call_command-disk.ensures.crashes)
+
+pub returns-in-Err-clause-cut_short : goal.returns-in-Err-clause-cut_short
+returns-in-Err-clause-cut_short g c = λ tells.
+    subst (λ (n : List ℕ). CutsCommandShort (file_said c.args.command) (or_empty (g.F.Folder.file c.args.folder.now n)) (g.F.Folder.moment_of c.args.folder.now n) (g.F.Folder.moment_of c.take_disk.new.folder n)
+    (g.F.Folder.past_of c.args.folder.now n) (g.F.Folder.leaves c.args.folder.now n) (g.F.Folder.left_with c.take_disk.new.folder n)) c.file.ensures
+    (untaken_cut (or_empty (g.F.Folder.file c.args.folder.now c.file.result.now)) _ _ _ _ _ _ _ _ _ _ c.in-Err.ensures.err_crash (g.met.F.Folder.only_with c.args.folder.now c.file.result.now) (file_said c.args.command))
+
+pub returns-clause-cut_short : goal.returns-clause-cut_short
+returns-clause-cut_short g c = λ tells.
+    subst (λ (n : List ℕ). CutsCommandShort (file_said c.args.command) (or_empty (g.F.Folder.file c.args.folder.now n)) (g.F.Folder.moment_of c.args.folder.now n) (g.F.Folder.moment_of c.give-given.new.self n)
+    (g.F.Folder.past_of c.args.folder.now n) (g.F.Folder.leaves c.args.folder.now n) (g.F.Folder.left_with c.give-given.new.self n)) c.file.ensures
+    (taken_cut _ _ _ _ _ _ _ _ _ _ _ _ _ _ _ _ _ _ _ _ c.in-Ok.ensures.crash (given_back g c) (file_said c.args.command) (or_empty (g.F.Folder.file c.args.folder.now c.file.result.now)) (g.F.D.Disk.image c.in-Ok.disk) (c.in-Ok.ensures.image tells)
+    c.call_command-disk.ensures.cut_short)
 
 pub returns-in-Err-clause-makes : goal.returns-in-Err-clause-makes
 returns-in-Err-clause-makes g c = λ tells empty.

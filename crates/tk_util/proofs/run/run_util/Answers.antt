@@ -4,6 +4,7 @@ use Rattle.tk_disk.specs.Crash.{Only}
 use Rattle.tk_disk.specs.Folder.{or_empty}
 use Rattle.tk_util.specs.Asked.{command_asked}
 use Rattle.tk_util.specs.Calls.{Spares}
+use Rattle.tk_util.specs.CutShort.{CutsCommandShort}
 use Rattle.tk_util.specs.Interrupted.{InterruptsCommand}
 use Rattle.tk_util.specs.Making.{Makes}
 use Rattle.tk_util.specs.Ran.{file_of, writes}
@@ -48,6 +49,18 @@ pub returns-in-Some-Restore-clause-crashes : goal.returns-in-Some-Restore-clause
 returns-in-Some-Restore-clause-crashes g c = λ d asked tells.
     same_of (λ (x : Command). InterruptsCommand x (or_empty (g.F.Folder.file c.args.folder.now (file_of x))) (g.F.Folder.moment_of c.args.folder.now (file_of x)) (g.F.Folder.moment_of c.run_restore.new.folder (file_of x))
     (g.F.Folder.leaves c.args.folder.now (file_of x)) (g.F.Folder.left_since c.args.folder.now (file_of x)) (g.F.Folder.left_since c.run_restore.new.folder (file_of x)) (g.F.Folder.left_with c.run_restore.new.folder (file_of x))) _ _ _ asked
+    (c.in-Some-Restore.ensures.read ∙ ap (λ (a : Asked). Some (command_asked a)) c.in-Some-Restore.field-0-is) tt
+
+pub returns-in-Some-OnFile-clause-cut_short : goal.returns-in-Some-OnFile-clause-cut_short
+returns-in-Some-OnFile-clause-cut_short g c = λ d asked tells.
+    same_of (λ (x : Command). CutsCommandShort x (or_empty (g.F.Folder.file c.args.folder.now (file_of x))) (g.F.Folder.moment_of c.args.folder.now (file_of x)) (g.F.Folder.moment_of c.run_on_file.new.folder (file_of x))
+    (g.F.Folder.past_of c.args.folder.now (file_of x)) (g.F.Folder.leaves c.args.folder.now (file_of x)) (g.F.Folder.left_with c.run_on_file.new.folder (file_of x))) _ _ _ asked
+    (c.in-Some-OnFile.ensures.read ∙ ap (λ (a : Asked). Some (command_asked a)) c.in-Some-OnFile.field-0-is) (c.run_on_file.ensures.cut_short tells)
+
+pub returns-in-Some-Restore-clause-cut_short : goal.returns-in-Some-Restore-clause-cut_short
+returns-in-Some-Restore-clause-cut_short g c = λ d asked tells.
+    same_of (λ (x : Command). CutsCommandShort x (or_empty (g.F.Folder.file c.args.folder.now (file_of x))) (g.F.Folder.moment_of c.args.folder.now (file_of x)) (g.F.Folder.moment_of c.run_restore.new.folder (file_of x))
+    (g.F.Folder.past_of c.args.folder.now (file_of x)) (g.F.Folder.leaves c.args.folder.now (file_of x)) (g.F.Folder.left_with c.run_restore.new.folder (file_of x))) _ _ _ asked
     (c.in-Some-Restore.ensures.read ∙ ap (λ (a : Asked). Some (command_asked a)) c.in-Some-Restore.field-0-is) tt
 
 pub returns-in-Some-OnFile-clause-durable : goal.returns-in-Some-OnFile-clause-durable

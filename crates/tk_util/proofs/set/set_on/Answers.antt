@@ -1,4 +1,5 @@
 use Rattle.tk_util.proofs.Crashing.{crash_behind}
+use Rattle.tk_util.proofs.CutShort.{behind_cut, cut_from_start, looked_cut}
 use Rattle.tk_util.proofs.Interrupting.{behind_at, looked_at}
 use Rattle.tk_util.proofs.Making.{never_made}
 use Rattle.tk_util.proofs.SetEndings.{set_moved}
@@ -38,3 +39,23 @@ returns-in-Err-NoMemory-clause-crashes g c = looked_at g.D.Disk.image g.D.Disk.m
 
 pub returns-in-Ok-false-clause-makes : goal.returns-in-Ok-false-clause-makes
 returns-in-Ok-false-clause-makes g c = never_made _ _ (c.in-Ok-false.ensures.full c.in-Ok-false.field-0-test)
+
+pub returns-in-Ok-false-clause-cut_short : goal.returns-in-Ok-false-clause-cut_short
+returns-in-Ok-false-clause-cut_short g c =
+    cut_from_start g.D.Disk.image g.D.Disk.may_leave g.D.Disk.past g.D.Disk.moment g.D.Disk.left_since g.D.Disk.left_with g.met.D.Disk.only_now g.met.D.Disk.only_with (g.D.Disk.image c.args.disk) _ c.args.disk _
+    (behind_cut g.D.Disk.image g.D.Disk.may_leave g.D.Disk.past g.D.Disk.moment g.D.Disk.left_since g.D.Disk.left_with g.met.D.Disk.counts_now g.met.D.Disk.counts_with (g.D.Disk.image c.args.disk) _ c.args.disk c.set_fresh.new.disk _ c.set_fresh.ensures.looks c.set_fresh.ensures.kept c.set_more.ensures.cut_short)
+
+pub returns-in-Ok-true-clause-cut_short : goal.returns-in-Ok-true-clause-cut_short
+returns-in-Ok-true-clause-cut_short g c =
+    cut_from_start g.D.Disk.image g.D.Disk.may_leave g.D.Disk.past g.D.Disk.moment g.D.Disk.left_since g.D.Disk.left_with g.met.D.Disk.only_now g.met.D.Disk.only_with (g.D.Disk.image c.args.disk) _ c.args.disk c.set_fresh.new.disk
+    (looked_cut g.D.Disk.image g.D.Disk.may_leave g.D.Disk.past g.D.Disk.moment g.D.Disk.left_since g.D.Disk.left_with g.met.D.Disk.counts_now g.met.D.Disk.counts_with g.met.D.Disk.since_with (g.D.Disk.image c.args.disk) _ c.args.disk c.set_fresh.new.disk c.set_fresh.ensures.looks)
+
+pub returns-in-Err-Fault-clause-cut_short : goal.returns-in-Err-Fault-clause-cut_short
+returns-in-Err-Fault-clause-cut_short g c =
+    cut_from_start g.D.Disk.image g.D.Disk.may_leave g.D.Disk.past g.D.Disk.moment g.D.Disk.left_since g.D.Disk.left_with g.met.D.Disk.only_now g.met.D.Disk.only_with (g.D.Disk.image c.args.disk) _ c.args.disk c.set_fresh.new.disk
+    (looked_cut g.D.Disk.image g.D.Disk.may_leave g.D.Disk.past g.D.Disk.moment g.D.Disk.left_since g.D.Disk.left_with g.met.D.Disk.counts_now g.met.D.Disk.counts_with g.met.D.Disk.since_with (g.D.Disk.image c.args.disk) _ c.args.disk c.set_fresh.new.disk c.set_fresh.ensures.looks)
+
+pub returns-in-Err-NoMemory-clause-cut_short : goal.returns-in-Err-NoMemory-clause-cut_short
+returns-in-Err-NoMemory-clause-cut_short g c =
+    cut_from_start g.D.Disk.image g.D.Disk.may_leave g.D.Disk.past g.D.Disk.moment g.D.Disk.left_since g.D.Disk.left_with g.met.D.Disk.only_now g.met.D.Disk.only_with (g.D.Disk.image c.args.disk) _ c.args.disk c.set_fresh.new.disk
+    (looked_cut g.D.Disk.image g.D.Disk.may_leave g.D.Disk.past g.D.Disk.moment g.D.Disk.left_since g.D.Disk.left_with g.met.D.Disk.counts_now g.met.D.Disk.counts_with g.met.D.Disk.since_with (g.D.Disk.image c.args.disk) _ c.args.disk c.set_fresh.new.disk c.set_fresh.ensures.looks)
