@@ -1,5 +1,6 @@
 //! Calls per second of a database: `tk_bench tiny|hash get|set THREADS CALLS`, in an empty directory.
 #![tactic(auto)]
+
 ghost use Rattle.std.specs.Prelude.{◌≡◌, [], List, true, IfOk, IfSome};
 ghost use Rattle.tk_model.specs.declared.record.Pair.{Pair};
 ghost use Rattle.tk_hash.specs.Hash.{HashStands, hash_view, hash_constants};
@@ -275,7 +276,13 @@ fn measured<R: Threads + Wait + Clock + Sync>(
     };
     match engine.as_str() {
         "tiny" => rate(threads_of, rt.alloc(), tiny(rt.alloc())?, threads, work),
-        "hash" => rate(threads_of, rt.alloc(), store_on(rt.alloc(), disk(rt)?)?, threads, work),
+        "hash" => rate(
+            threads_of,
+            rt.alloc(),
+            store_on(rt.alloc(), disk(rt)?)?,
+            threads,
+            work,
+        ),
         _ => Err(BenchError::Usage),
     }
 }

@@ -30,11 +30,7 @@ pub fn tiny(alloc: Global, limit: u64) -> Result<TinyRecords, NoMemory>
 }
 
 /// A store over a new file, whose disk fails at these calls.
-pub fn file(
-    alloc: Global,
-    limit: u64,
-    faults: &[u64],
-) -> Result<HashStore<MemDisk>, OpenError>
+pub fn file(alloc: Global, limit: u64, faults: &[u64]) -> Result<HashStore<MemDisk>, OpenError>
     ensures opened { IfOk result (IsOpened (HashStands mem_image MemMayLeave mem_past)
         (hash_view mem_image)) }
     ensures floor { IfOk result (λ s. (hash_view mem_image s).floor ≡ 0) }
