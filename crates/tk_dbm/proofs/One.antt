@@ -1,10 +1,10 @@
 -- A database of one store: what `make` asks of it.
-use Rattle.std.proofs.Common.{◌≡◌, ℕ, zero, suc, ◌<◌, ◌≤◌, ◌^◌, Bool, true, false, List, [], ◌∷◌, filter, slice_index_or, Contains, Option, Some, None, IfSome, is_some, if◌then◌else◌, ◌==◌, refl, sym, ap, ◌∙◌, subst, arith}
+use Rattle.std.proofs.Common.{◌≡◌, ℕ, zero, suc, ◌≤◌, ◌^◌, Bool, true, false, List, [], ◌∷◌, slice_index_or, Contains, Option, Some, None, IfSome, is_some, if◌then◌else◌, ◌==◌, refl, sym, ap, ◌∙◌, subst, arith}
 use mathlib.Core.Option.{some, some-injective, some-ne-none}
 use lib.ListN.{get_elem?}
 use Rattle.tk_model.specs.Hashes.{mix_of, shard_of}
 use Rattle.tk_model.specs.Records.{put, put_by, replay, AllBehind, Rising}
-use Rattle.tk_model.specs.Entries.{shard_records, holds_key}
+use Rattle.tk_model.specs.Entries.{shard_records}
 use Rattle.tk_model.specs.declared.record.Order.{Order}
 use Rattle.tk_model.specs.declared.record.Pair.{Pair}
 use Rattle.tk_model.specs.declared.record.Group.{Group}
