@@ -1,0 +1,36 @@
+//! From what the database answered and what the processor tells to the answer of a call.
+ghost use Rattle.std.specs.Prelude.{◌≡◌, is_some, true, false};
+ghost use Rattle.tk_derived.specs.Answering.{succeeded, answered};
+
+use tk_dbm::Answer;
+use tk_status::Status;
+
+/// The call was made, and its processor's reply counts.
+pub(crate) fn is_made(answer: &Answer) -> bool
+    ensures { result ≡ succeeded answer.now }
+{
+    match (answer.number, answer.status) {
+        (Some(_), Status::Success) => true,
+        _ => false,
+    }
+}
+
+/// The answer of a call, with what its processor says in place of success.
+pub(crate) fn replied(answer: Answer, status: Status) -> Answer
+    ensures { result ≡ answered answer status }
+{
+    match status {
+        Status::InvalidArgument
+        | Status::NotFound
+        | Status::Infeasible
+        | Status::Duplication
+            if is_made(&answer) =>
+        {
+            Answer {
+                status,
+                number: answer.number,
+            }
+        }
+        _ => answer,
+    }
+}
