@@ -1,5 +1,5 @@
 -- A call whose processor passes a gate.
-use Rattle.std.proofs.Common.{◌≡◌, ℕ, Bool, true, false, List, Option, Some, None, unwrap_or, ap, ◌∙◌}
+use Rattle.std.proofs.Common.{◌≡◌, ℕ, Bool, true, false, List, Option, Some, None, unwrap_or, if◌then◌else◌, ap, ◌∙◌}
 use Rattle.tk_status.specs.declared.Status.{Status}
 use Rattle.tk_model.specs.Records.{find}
 use Rattle.tk_model.specs.declared.record.Action.{Action}
@@ -42,9 +42,10 @@ module _ {P G : Type 0} (acts : P → List ℕ → Option (List ℕ) → Action)
     derived_by st is = derives gated_acts gated_turns s writes g key row call.same full room v made w call.called call.fair st (λ n e all. is (find key (records_at s w.caller n)) (behind n e all))
 
     -- where the out parameter is the row's
-    pub told_by : {A : Type 0} (value : Option (List ℕ) → Option A) (st : Status) (old new : A)
-        → (succeeded made ≡ false → new ≡ old)
-        → (succeeded made ≡ true → (was : Option (List ℕ)) → q.processor ≡ turns g.processor key was → new ≡ unwrap_or (value was) old)
+    pub told_by : {A : Type 0} (value : Option (List ℕ) → Option A) (st : Status) (val : Option A) (old new : A)
+        → new ≡ (if succeeded made then unwrap_or val old else old)
+        → ((was : Option (List ℕ)) → q.processor ≡ turns g.processor key was → val ≡ value was)
         → IsTold s key value (answered made st) w old new
-    told_by value st old new still told = tells gated_acts gated_turns s writes g key row call.same full room v made w call.called call.fair value st old new still
-        (λ n e all yes. told yes (find key (records_at s w.caller n)) (behind n e all))
+    told_by value st val old new is told = tells gated_acts gated_turns s writes g key row call.same full room v made w call.called call.fair value st old new
+        (λ h. is ∙ ap (λ (b : Bool). if b then unwrap_or val old else old) h)
+        (λ n e all yes. is ∙ ap (λ (b : Bool). if b then unwrap_or val old else old) yes ∙ ap (λ z. unwrap_or z old) (told (find key (records_at s w.caller n)) (behind n e all)))

@@ -3,7 +3,7 @@ ghost use Rattle.tk_dbm.specs.Dbm.{setting, view, IsIdleOf, AllKeepLaw};
 ghost use Rattle.tk_derived.specs.Rows.{increment_row, increment_value, row_entry};
 ghost use Rattle.tk_derived.specs.Derived.{Replies, IsTold};
 
-use crate::reply::{is_made, replied};
+use crate::reply::{replied, tell};
 use std::alloc::Global;
 use std::sync::Wait;
 use tk_dbm::{Answer, Dbm, Pass};
@@ -36,10 +36,6 @@ pub fn increment<S: SeqStore, R: Wait, G: Gate>(
     let mut gated = Gated { processor, at: *at };
     let made = db.process(rt, pass, key, &mut gated, true);
     let answer = replied(made, gated.processor.status());
-    if is_made(&made)
-        && let Some(number) = gated.processor.number()
-    {
-        *out = number;
-    }
+    tell(out, &made, gated.processor.number());
     answer
 }

@@ -6,7 +6,7 @@ ghost use Rattle.tk_dbm.specs.Dbm.{setting, view, IsIdleOf, AllKeepLaw};
 ghost use Rattle.tk_derived.specs.Rows.{exchange_row, exchange_value, row_entry};
 ghost use Rattle.tk_derived.specs.Derived.{Replies, IsTold};
 
-use crate::reply::{is_made, replied};
+use crate::reply::{replied, tell};
 use std::alloc::Global;
 use std::sync::Wait;
 use tk_dbm::{Answer, Dbm, Pass};
@@ -123,9 +123,7 @@ pub fn compare_exchange<S: SeqStore, R: Wait, G: Gate>(
     let made = db.process(rt, pass, key, &mut gated, true);
     let Gated { processor, .. } = gated;
     let answer = replied(made, processor.status());
-    if is_made(&made) {
-        let LentExchanger { found, .. } = processor;
-        *actual = found;
-    }
+    let LentExchanger { found, .. } = processor;
+    tell(actual, &made, Some(found));
     answer
 }

@@ -3,7 +3,7 @@ ghost use Rattle.tk_dbm.specs.Dbm.{setting, view, IsIdleOf, AllKeepLaw};
 ghost use Rattle.tk_derived.specs.Rows.{get_row, get_value, row_entry};
 ghost use Rattle.tk_derived.specs.Derived.{Replies, IsTold};
 
-use crate::reply::{is_made, replied};
+use crate::reply::{replied, tell};
 use std::alloc::Global;
 use std::sync::Wait;
 use tk_dbm::{Answer, Dbm, Pass};
@@ -36,10 +36,6 @@ pub fn get<S: SeqStore, R: Wait, G: Gate>(
     let made = db.process(rt, pass, key, &mut gated, false);
     let Gated { processor, .. } = gated;
     let answer = replied(made, processor.status());
-    if is_made(&made)
-        && let Some(value) = processor.into_value()
-    {
-        *out = value;
-    }
+    tell(out, &made, processor.into_value());
     answer
 }

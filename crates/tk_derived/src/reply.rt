@@ -1,5 +1,5 @@
 //! From what the database answered and what the processor tells to the answer of a call.
-ghost use Rattle.std.specs.Prelude.{◌≡◌, is_some, true, false};
+ghost use Rattle.std.specs.Prelude.{◌≡◌, unwrap_or, if◌then◌else◌};
 ghost use Rattle.tk_derived.specs.Answering.{succeeded, answered};
 
 use tk_dbm::Answer;
@@ -32,5 +32,16 @@ pub(crate) fn replied(answer: Answer, status: Status) -> Answer
             }
         }
         _ => answer,
+    }
+}
+
+/// Writes what a processor tells over `out`, where the call was made and there is something to tell.
+pub(crate) fn tell<T: Drop>(out: &mut T, made: &Answer, value: Option<T>)
+    ensures { out.new ≡ if succeeded made.now then unwrap_or value out.old else out.old }
+{
+    if is_made(made)
+        && let Some(value) = value
+    {
+        *out = value;
     }
 }
