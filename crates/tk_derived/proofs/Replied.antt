@@ -82,6 +82,7 @@ row_is made st r n e never is fair h = go (is_long r.action) h
   where
     counts : made.status ≡ statuses.Success → succeeded made ≡ true
     counts s = ap (λ (z : Option ℕ). is_some z && is_success made.status) e ∙ ap is_success s
+
     go : (b : Bool) → made.status ≡ (if b then statuses.TooLong (stored r.action) else statuses.Success) → made.status ≡ (if b then statuses.TooLong (stored r.action) else r.status)
     go true h = h
     go false h = ⊎_elim (λ (y : r.status ≡ statuses.Success). h ∙ sym y)
@@ -144,6 +145,7 @@ loud_success made st n act e never loud h = go (is_long act) h
   where
     f : is_mute made.status ≡ false
     f = ap (λ (z : Answer). is_mute z.status) (sym (not_counted made st never)) ∙ loud
+
     go : (b : Bool) → made.status ≡ (if b then statuses.TooLong (stored act) else statuses.Success) → ⊥
     go true h = let t : is_mute made.status ≡ true = ap is_mute h in cc
     go false h = let t : succeeded made ≡ true = ap (λ (z : Option ℕ). is_some z && is_success made.status) e ∙ ap is_success h in cc
@@ -208,10 +210,10 @@ module _ {P : Type 0} (acts : P → List ℕ → Option (List ℕ) → Action) (
           inner = made.status;
           called = called_at;
           status = inr (record {
-                success = success_is made.status (second_true (is_some made.number) (is_success made.status) (first_true (succeeded made) (is_no st) e));
-                number = first_true (is_some made.number) (is_success made.status) (first_true (succeeded made) (is_no st) e);
-                no = second_true (succeeded made) (is_no st) e;
-              });
+            success = success_is made.status (second_true (is_some made.number) (is_success made.status) (first_true (succeeded made) (is_no st) e));
+            number = first_true (is_some made.number) (is_success made.status) (first_true (succeeded made) (is_no st) e);
+            no = second_true (succeeded made) (is_no st) e;
+          });
           replied = λ n h all. no_there st n h all (success_is made.status (second_true (is_some made.number) (is_success made.status) (first_true (succeeded made) (is_no st) e))) (is n h all);
         }
         go false e = record {
@@ -230,6 +232,6 @@ module _ {P : Type 0} (acts : P → List ℕ → Option (List ℕ) → Action) (
       unnumbered = λ e. still (no_number made (sym (same_number made st) ∙ e));
       mute = λ e. still (no_success made st e);
       told = λ n e loud all. told n (sym (same_number made st) ∙ e) all (by_bool (succeeded made) (λ h. h) (λ h. absurd (⊎_elim
-              (λ (t : made.status ≡ status_unless_long (here n).action). loud_success made st n (here n).action (sym (same_number made st) ∙ e) h loud t)
-              (λ (t : is_system made.status ≡ true). loud_system made st h loud t) (called_at.ends.status_is n (sym (same_number made st) ∙ e) all))));
+          (λ (t : made.status ≡ status_unless_long (here n).action). loud_success made st n (here n).action (sym (same_number made st) ∙ e) h loud t)
+          (λ (t : is_system made.status ≡ true). loud_system made st h loud t) (called_at.ends.status_is n (sym (same_number made st) ∙ e) all))));
     }

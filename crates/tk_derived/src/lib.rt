@@ -1,17 +1,17 @@
 //! Calls of one record, each by its row of the reply table.
 #![tactic(auto)]
 
-mod appending;
-mod counting;
-mod exchanging;
-mod getting;
-mod removing;
+mod appender;
+mod counter;
+mod exchanger;
+mod getter;
+mod remover;
 mod reply;
-mod setting;
+mod setter;
 
-pub use appending::append;
-pub use counting::increment;
-pub use exchanging::{ValueList, compare_exchange};
-pub use getting::get;
-pub use removing::remove;
-pub use setting::set;
+pub use appender::append;
+pub use counter::increment;
+pub use exchanger::{ValueList, compare_exchange};
+pub use getter::get;
+pub use remover::remove;
+pub use setter::set;

@@ -20,12 +20,8 @@ pub(crate) fn replied(answer: Answer, status: Status) -> Answer
     ensures { result ≡ answered answer status }
 {
     match status {
-        Status::InvalidArgument
-        | Status::NotFound
-        | Status::Infeasible
-        | Status::Duplication
-            if is_made(&answer) =>
-        {
+        Status::InvalidArgument | Status::NotFound | Status::Infeasible | Status::Duplication
+            if is_made(&answer) => {
             Answer {
                 status,
                 number: answer.number,

@@ -1,5 +1,5 @@
 //! Each form of what is expected and what is desired.
-use crate::fixture::{LIMIT, OPEN, is, tiny};
+use crate::fixture::{LIMIT, OPEN, holds, is, tiny};
 use std::alloc::Global;
 use std::test::*;
 use tk_dbm_tests::fixture::{alone, is_done, is_refused};
@@ -44,15 +44,17 @@ fn an_absent_record_is_exchanged(rt: HostRuntime) -> Result<(), Fail> {
     let answer = compare_exchange(alloc, &rt, &db, &mut pass, b"a", &e, &d, &mut old, &OPEN);
     assert!(rt; is(&answer, 1, Status::Infeasible) && lists_none(&old));
     let (absent, none) = (Expected::Absent, Desired::Remove);
-    let answer =
-        compare_exchange(alloc, &rt, &db, &mut pass, b"a", &absent, &none, &mut old, &OPEN);
+    let answer = compare_exchange(
+        alloc, &rt, &db, &mut pass, b"a", &absent, &none, &mut old, &OPEN,
+    );
     assert!(rt; is_done(&answer, 2) && lists_none(&old));
-    let answer =
-        compare_exchange(alloc, &rt, &db, &mut pass, b"a", &absent, &d, &mut old, &OPEN);
+    let answer = compare_exchange(
+        alloc, &rt, &db, &mut pass, b"a", &absent, &d, &mut old, &OPEN,
+    );
     assert!(rt; is_done(&answer, 3) && lists_none(&old));
     let mut out = Bytes::new(alloc);
     assert!(rt; is_done(&get(alloc, &rt, &db, &mut pass, b"a", &mut out, &OPEN), 4));
-    assert!(rt; out.as_slice() == b"1");
+    assert!(rt; holds(&out, b"1"));
     assert!(rt; db.close(pass).status == Status::Success);
     Ok(())
 }
@@ -66,16 +68,23 @@ fn a_record_is_exchanged(rt: HostRuntime) -> Result<(), Fail> {
     let (none, same) = (Desired::Remove, Desired::Leave);
     let mut old = ValueList::new(alloc);
     assert!(rt; is_done(&set(alloc, &rt, &db, &mut pass, b"a", b"1", true, &OPEN), 0));
-    let answer =
-        compare_exchange(alloc, &rt, &db, &mut pass, b"a", &absent, &d, &mut old, &OPEN);
+    let answer = compare_exchange(
+        alloc, &rt, &db, &mut pass, b"a", &absent, &d, &mut old, &OPEN,
+    );
     assert!(rt; is(&answer, 1, Status::Infeasible) && lists(&old, b"1"));
-    let answer = compare_exchange(alloc, &rt, &db, &mut pass, b"a", &two, &none, &mut old, &OPEN);
+    let answer = compare_exchange(
+        alloc, &rt, &db, &mut pass, b"a", &two, &none, &mut old, &OPEN,
+    );
     assert!(rt; is(&answer, 2, Status::Infeasible) && lists(&old, b"1"));
-    let answer = compare_exchange(alloc, &rt, &db, &mut pass, b"a", &any, &same, &mut old, &OPEN);
+    let answer = compare_exchange(
+        alloc, &rt, &db, &mut pass, b"a", &any, &same, &mut old, &OPEN,
+    );
     assert!(rt; is_done(&answer, 3) && lists(&old, b"1"));
     let answer = compare_exchange(alloc, &rt, &db, &mut pass, b"a", &one, &d, &mut old, &OPEN);
     assert!(rt; is_done(&answer, 4) && lists(&old, b"1"));
-    let answer = compare_exchange(alloc, &rt, &db, &mut pass, b"a", &two, &none, &mut old, &OPEN);
+    let answer = compare_exchange(
+        alloc, &rt, &db, &mut pass, b"a", &two, &none, &mut old, &OPEN,
+    );
     assert!(rt; is_done(&answer, 5) && lists(&old, b"2"));
     let mut out = Bytes::new(alloc);
     let answer = get(alloc, &rt, &db, &mut pass, b"a", &mut out, &OPEN);
@@ -91,7 +100,9 @@ fn a_refused_exchange_tells_nothing(rt: HostRuntime) -> Result<(), Fail> {
     let mut old = ValueList::new(alloc);
     old.push(Some(Bytes::from_slice(alloc, b"as it was")?))?;
     let (any, same) = (Expected::Any, Desired::Leave);
-    let answer = compare_exchange(alloc, &rt, &db, &mut pass, b"a", &any, &same, &mut old, &OPEN);
+    let answer = compare_exchange(
+        alloc, &rt, &db, &mut pass, b"a", &any, &same, &mut old, &OPEN,
+    );
     assert!(rt; is_refused(&answer, Status::Precondition));
     assert!(rt; lists(&old, b"as it was"));
     assert!(rt; db.close(pass).status == Status::Success);

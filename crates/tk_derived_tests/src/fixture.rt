@@ -5,7 +5,7 @@ ghost use Rattle.tk_dbm_tests.specs.Fixture.{IsOpened};
 use std::alloc::Global;
 use tk_dbm::Answer;
 use tk_mem::TinyRecords;
-use tk_model::NoMemory;
+use tk_model::{Bytes, NoMemory};
 use tk_proc::{At, OpenGate};
 use tk_status::Status;
 use tk_store::HashedRecords;
@@ -32,4 +32,9 @@ pub fn tiny(alloc: Global, limit: u64) -> Result<TinyRecords, NoMemory>
 /// Whether the call was made under this number, and answered so.
 pub fn is(answer: &Answer, number: u64, status: Status) -> bool {
     answer.status == status && answer.number == Some(number)
+}
+
+/// Whether these are the bytes of the value.
+pub fn holds(value: &Bytes, bytes: &[u8]) -> bool {
+    value.as_slice() == bytes
 }

@@ -2,10 +2,10 @@
 #![tactic(auto)]
 
 #[cfg(test)]
-mod fixture;
-#[cfg(test)]
 mod count_tests;
 #[cfg(test)]
 mod exchange_tests;
+#[cfg(test)]
+mod fixture;
 #[cfg(test)]
 mod value_tests;

@@ -19,7 +19,7 @@ use tk_store::SeqStore;
 pub type ValueList = ListOf<Option<Bytes>>;
 
 /// Changes a record that is as it is expected, by lent forms, and lists the value that it found.
-#[derive(Debug, Drop)]
+#[derive(Drop)]
 struct LentExchanger<'a> {
     alloc: Global,
     expected: &'a Expected,
@@ -58,8 +58,8 @@ impl LentExchanger<'_> {
         ensures action { IfOk result (λ a. a ≡ (exchange_reply self.old.expected.now
             self.old.desired.now (option_copied value.entry)).action) }
         ensures turned { OnOk result (self.new ≡ record self.old {
-            met = is_met self.old.expected.now (option_copied value.entry);
-            found = option_copied value.entry ∷ [];
+          met = is_met self.old.expected.now (option_copied value.entry);
+          found = option_copied value.entry ∷ [];
         }) }
         ensures err { OnErr result (self.new ≡ self.old) }
     {

@@ -12,7 +12,7 @@ use tk_proc::{At, Gate, Gated, RecordProcessor};
 use tk_store::SeqStore;
 
 /// Stores a lent value behind the one that is there, with a lent delimiter between the two.
-#[derive(Debug, Drop)]
+#[derive(Drop)]
 struct LentAppender<'a> {
     alloc: Global,
     value: &'a [u8],

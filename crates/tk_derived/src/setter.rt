@@ -14,7 +14,7 @@ use tk_status::Status;
 use tk_store::SeqStore;
 
 /// Stores a copy of a lent value, which is made when the record was read.
-#[derive(Debug, Drop)]
+#[derive(Drop)]
 struct LentSetter<'a> {
     alloc: Global,
     value: &'a [u8],

@@ -5,14 +5,12 @@ ghost use Rattle.tk_derived.specs.Derived.{Replies};
 
 use crate::reply::replied;
 use std::sync::Wait;
-use std::alloc::Global;
 use tk_dbm::{Answer, Dbm, Pass};
 use tk_proc::{At, Gate, Gated, Remover};
 use tk_store::SeqStore;
 
 /// Takes a record away.
 pub fn remove<S: SeqStore, R: Wait, G: Gate>(
-    _: Global,
     rt: &R,
     db: &Dbm<S>,
     pass: &mut Pass,
