@@ -15,20 +15,21 @@ pub(crate) fn is_made(answer: &Answer) -> bool
     }
 }
 
-/// The answer of a call, with what its processor says in place of success.
+/// The answer of a call, with its processor's no in place of success.
 pub(crate) fn replied(answer: Answer, status: Status) -> Answer
     ensures { result ≡ answered answer status }
 {
-    match status {
+    let no = matches!(
+        status,
         Status::InvalidArgument | Status::NotFound | Status::Infeasible | Status::Duplication
-            if is_made(&answer) => {
-            Answer {
-                status,
-                number: answer.number,
-            }
-        }
-        _ => answer,
+    );
+    if no && is_made(&answer) {
+        return Answer {
+            status,
+            number: answer.number,
+        };
     }
+    answer
 }
 
 /// Writes what a processor tells over `out`, where the call was made and there is something to tell.

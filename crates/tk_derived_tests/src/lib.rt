@@ -1,11 +1,11 @@
-//! Tests of the calls of one record.
+//! Tests of the calls of one record, as rows: each call with what it is to answer and tell.
 #![tactic(auto)]
 
 #[cfg(test)]
-mod count_tests;
+mod gate_tests;
 #[cfg(test)]
-mod exchange_tests;
+mod row;
 #[cfg(test)]
-mod fixture;
+mod row_tests;
 #[cfg(test)]
-mod value_tests;
+mod tiny;
