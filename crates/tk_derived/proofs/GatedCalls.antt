@@ -1,5 +1,5 @@
 -- A call whose processor passes a gate.
-use Rattle.std.proofs.Common.{◌≡◌, ℕ, Bool, true, false, List, Option, Some, None, unwrap_or, if◌then◌else◌, ap, ◌∙◌}
+use Rattle.std.proofs.Common.{◌≡◌, ℕ, Bool, List, Option, Some, unwrap_or, if◌then◌else◌, ap, ◌∙◌}
 use Rattle.tk_status.specs.declared.Status.{Status}
 use Rattle.tk_model.specs.Records.{find}
 use Rattle.tk_model.specs.declared.record.Action.{Action}

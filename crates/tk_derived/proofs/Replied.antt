@@ -19,7 +19,7 @@ use Rattle.tk_dbm.specs.Calls.{Called, is_system}
 use Rattle.tk_dbm.specs.Dbm.{AllKeepLaw}
 use Rattle.tk_dbm.specs.OneKey.{one, key_entry, key_status, Turned}
 use Rattle.tk_derived.specs.Rows.{Row, row_entry, row_status, made_status}
-use Rattle.tk_derived.specs.Derived.{Derived, SaysNo, IsTold, is_no, is_mute}
+use Rattle.tk_derived.specs.Derived.{Derived, IsTold, is_no, is_mute}
 use Rattle.tk_derived.specs.Answering.{succeeded, answered, is_success}
 
 success_is : (st : Status) → is_success st ≡ true → st ≡ statuses.Success

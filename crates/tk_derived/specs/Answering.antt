@@ -1,5 +1,5 @@
 -- Where the reply of a processor counts.
-use Rattle.std.specs.Prelude.{ℕ, Bool, true, false, ◌&&◌, Option, is_some, if◌then◌else◌}
+use Rattle.std.specs.Prelude.{Bool, true, false, ◌&&◌, is_some, if◌then◌else◌}
 use Rattle.tk_status.specs.declared.Status.{Status}
 use Rattle.tk_status.specs.declared.Status.TheVariants as statuses
 use Rattle.tk_dbm.specs.declared.answer.Answer.{Answer}

@@ -1,4 +1,4 @@
-use Rattle.std.proofs.Common.{◌≡◌, ℕ, true, List, Option, refl, subst}
+use Rattle.std.proofs.Common.{true, refl, subst}
 use Rattle.tk_status.specs.declared.Status.TheVariants.{Success}
 use Rattle.tk_proc.specs.Replies.{append_reply}
 use Rattle.tk_dbm.specs.Dbm.{view}

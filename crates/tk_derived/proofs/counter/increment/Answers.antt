@@ -1,4 +1,4 @@
-use Rattle.std.proofs.Common.{◌≡◌, ℕ, List, Option, None, ap, ◌∙◌, ℤ, SFits, w64, to_z, of_z}
+use Rattle.std.proofs.Common.{◌≡◌, None, ap, ◌∙◌, ℤ, SFits, w64, to_z, of_z}
 use Rattle.std.proofs.lemmas.Int.{to_z-of_z}
 use Rattle.tk_status.specs.declared.Status.TheVariants.{Success}
 use Rattle.tk_proc.specs.Increments.{Counting, counting_after, increment_reply}

@@ -1,4 +1,4 @@
-use Rattle.std.proofs.Common.{◌≡◌, ℕ, List, [], ◌∷◌, Option, Some, refl, ap, ◌∙◌, if◌then◌else◌}
+use Rattle.std.proofs.Common.{[], ◌∷◌, Some, refl, ap, ◌∙◌, if◌then◌else◌}
 use Rattle.tk_status.specs.declared.Status.TheVariants.{Success, Infeasible}
 use Rattle.tk_proc.specs.Replies.{is_met, exchange_reply}
 use Rattle.tk_derived.specs.declared.exchanger.LentExchanger.{LentExchanger}

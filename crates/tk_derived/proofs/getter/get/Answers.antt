@@ -1,4 +1,4 @@
-use Rattle.std.proofs.Common.{◌≡◌, ℕ, List, Option, ap, ◌∙◌}
+use Rattle.std.proofs.Common.{ℕ, List, Option, ap, ◌∙◌}
 use Rattle.tk_proc.specs.Replies.{get_reply}
 use Rattle.tk_derived.specs.Rows.{get_value}
 use Rattle.tk_derived.proofs.GatedCalls.{derived_by, told_by}

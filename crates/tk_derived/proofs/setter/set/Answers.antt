@@ -1,8 +1,7 @@
-use Rattle.std.proofs.Common.{◌≡◌, ℕ, List, Option, is_some, refl, ap, ◌∙◌, subst}
+use Rattle.std.proofs.Common.{◌≡◌, ℕ, List, Option, is_some, refl, subst}
 use Rattle.tk_proc.specs.Replies.{set_reply}
 use Rattle.tk_derived.specs.declared.setter.LentSetter.{LentSetter}
-use Rattle.tk_derived.specs.Rows.{set_row}
-use Rattle.tk_derived.proofs.GatedCalls.{IsGatedCall, derived_by}
+use Rattle.tk_derived.proofs.GatedCalls.{derived_by}
 use Rattle.tk_derived.proofs.RowLaws.{set_replies}
 use Rattle.tk_derived.proofs.setter.set.Goals as goal
 
