@@ -7,7 +7,9 @@ use Rattle.std.specs.Global.{Vec}
 use Rattle.std.specs.HashSet.{HashSet, hash_set_len, contains_by, UpdatesBy}
 use Rattle.std.specs.declared.cmp.Ordering.{Ordering}
 use Rattle.std.specs.declared.cmp.Ordering.TheVariants.{Less, Equal, Greater}
+use Rattle.std.specs.List.Sorted.{IsPermutation}
 use Rattle.std.specs.Set.{KeepsOthers}
+use Rattle.std.proofs.lemmas.List.Sorted.{list_any-IsPermutation}
 use Rattle.std.proofs.lemmas.Slice.Eq.{bytes_eq-Decides}
 use Rattle.tk_model.specs.Orders.{same_bytes, key_cmp}
 use Rattle.tk_model.specs.Records.{find, put, put_by, without, Rising}
@@ -121,4 +123,12 @@ drop_keys old new key was pairs test u len h = record {
   each = λ k.
       changed_by (same_bytes k key) key k old new false (bytes_flipped (same_bytes k key) k key refl) u
       ∙ ap (λ (t : Bool). cond (same_bytes k key) false t) (h.each k) ∙ sym (without_found (same_bytes k key) k key pairs h.rising refl);
+}
+
+-- the keys stand elsewhere in the set
+pub moved_keys : {S : Type 0} (old new : HashSet (Vec ℕ) S) (pairs : List Pair) → IsPermutation old.keys new.keys → hash_set_len new ≡ hash_set_len old → HasKeys old pairs → HasKeys new pairs
+moved_keys old new pairs moved len h = record {
+  rising = h.rising;
+  count = len ∙ h.count;
+  each = λ k. sym (list_any-IsPermutation (λ v. bytes_eq k v.items) old.keys new.keys moved) ∙ h.each k;
 }

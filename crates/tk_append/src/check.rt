@@ -20,8 +20,8 @@ use crate::walker::Walker;
 use crate::window::read_piece;
 use std::alloc::Global;
 use tk_block::{
-    CLOSING_PLACE, Closing, HEADS_PLACE, KIND_PLACE, NEXT_PLACE, STATIC_SIZE, StaticHead, base_of,
-    read_closing, read_static,
+    CLOSING_PLACE, Closing, HEADS_PLACE, KIND_PLACE, LEAST_EXTENT, NEXT_PLACE, STATIC_SIZE,
+    StaticHead, base_of, read_closing, read_static,
 };
 use tk_disk::{Disk, DiskError};
 use tk_model::{OpenError, ShardOf};
@@ -200,7 +200,9 @@ pub(crate) fn check_disk<D: Disk>(
         disk.new }
 {
     let found = read_front(disk, kinds)?;
-    let mut walker = walk_file(alloc, disk, &found.head, shard, found.closing.size)?;
+    let Closing { count, size, .. } = found.closing;
+    let keys = count.min(size / LEAST_EXTENT) as usize;
+    let mut walker = walk_file(alloc, disk, &found.head, shard, size, keys)?;
     check_end(alloc, disk, &mut walker, &found.closing, writable)?;
     let heads = walker.into_heads();
     Ok(FoundHeads { found, heads })

@@ -1,6 +1,7 @@
 //! Files of blocks on a disk.
 #![tactic(auto)]
 
+mod ahead;
 mod blocks;
 mod chains;
 mod check;

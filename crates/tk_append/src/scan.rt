@@ -12,13 +12,14 @@ use tk_block::{StaticHead, base_of};
 use tk_disk::Disk;
 use tk_model::{OpenError, ShardOf};
 
-/// What is known behind all blocks of a file of this size.
+/// What is known behind all blocks of a file of this size. Room for so many keys is taken at once.
 pub(crate) fn walk_file<D: Disk>(
     alloc: Global,
     disk: &mut D,
     head: &StaticHead,
     shard: ShardOf,
     size: u64,
+    keys: usize,
 ) -> Result<Walker, OpenError>
     requires p { head.now.p ≤ 24 }
     requires shard { shard.index < shard.of }
@@ -31,7 +32,7 @@ pub(crate) fn walk_file<D: Disk>(
     ensures still { OnlyReads D.may_leave D.moment D.left_since D.past D.left_with disk.old
         disk.new }
 {
-    let mut walker = Walker::new(alloc, head.p)?;
+    let mut walker = Walker::with_capacity(alloc, head.p, keys)?;
     let mut window = Window::new(alloc);
     let mut place = base_of(head.p);
     while place < size {

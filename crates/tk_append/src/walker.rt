@@ -6,6 +6,7 @@ ghost use Rattle.tk_block.specs.Layout.{Placed, link_of};
 ghost use Rattle.tk_append.specs.Opening.{Walk, is_in_its_shard, is_in_turn, is_padded, may_stand, walked};
 ghost use Rattle.tk_append.specs.Walked.{IsAt, MayFollow, Fails, NewestIn, HasNone, HasBlock, turn_in, live_head};
 
+use crate::ahead::{AHEAD, count_new, has_blocks, keys_ahead, reserve_keys};
 use crate::keys::change_keys;
 use std::alloc::Global;
 use std::collections::HashSet;
@@ -33,6 +34,8 @@ pub(crate) struct Walker {
     /// The number of the last complete group.
     pub before: Option<u64>,
     pub open_group: Option<OpenGroup>,
+    /// So many of the blocks that were looked at are not passed.
+    ahead: usize,
 }
 
 /// A block with its extent and the mixed hash of its key.
@@ -120,20 +123,21 @@ impl Walker {
     ghost use Rattle.tk_append.specs.Opening.{Walk, begin, may_stand, walked, opened_by};
     ghost use Rattle.tk_append.specs.Walked.{IsAt, MayFollow, Fails, HasBlock, NewestIn, IsOfKind, Passed, least_behind, as_open};
 
-    /// Nothing is known yet.
-    pub fn new(alloc: Global, p: u8) -> Result<Walker, NoMemory>
+    /// Nothing is known yet. There is room for so many keys.
+    pub fn with_capacity(alloc: Global, p: u8, keys: usize) -> Result<Walker, NoMemory>
         requires { p ≤ 24 }
         ensures { IfOk result (λ walker. IsAt p (base_of p) walker begin) }
     {
         let mut heads = Vec::new(alloc);
         heads.resize(1 << p, 0)?;
-        let keys = HashSet::new(alloc);
+        let keys = HashSet::with_capacity(alloc, keys)?;
         Ok(Walker {
             heads,
             cleared: 0,
             keys,
             before: None,
             open_group: None,
+            ahead: 0,
         })
     }
 
@@ -269,6 +273,27 @@ impl Walker {
         Ok(())
     }
 
+    /// Looks at the next blocks where none of those that were looked at is left.
+    fn look_ahead(&mut self, p: u8, bytes: &[u8]) -> Result<(), NoMemory>
+        requires p { p ≤ 24 }
+        requires heads { length self.old.heads.items ≡ 2 ^ p }
+        ensures same { (place : ℕ) (w : Walk) → IsAt p place self.old w → IsAt p place self.new w }
+        ensures heads { self.new.heads ≡ self.old.heads }
+    {
+        if self.ahead > 0 {
+            self.ahead -= 1;
+            return Ok(());
+        }
+        self.ahead = AHEAD - 1;
+        let next = keys_ahead(bytes);
+        let new = if has_blocks(p, &self.heads, &next) {
+            count_new(&self.keys, &next)
+        } else {
+            next.len()
+        };
+        reserve_keys(&mut self.keys, new)
+    }
+
     /// Passes the block at the front of bytes that lie at a place, and answers its extent.
     pub fn step(
         &mut self,
@@ -287,6 +312,7 @@ impl Walker {
         ensures fails { (w : Walk) → IsAt head.now.p place self.old w
             → IfErr result (Fails head.now shard w place bytes.now) }
     {
+        self.look_ahead(head.p, bytes)?;
         let found = self.judge(head, shard, place, bytes)?;
         self.pass(alloc, head.p, place, &found)?;
         Ok(found.extent)
@@ -302,6 +328,7 @@ impl Walker {
             keys: _,
             before: _,
             open_group: _,
+            ahead: _,
         } = self;
         heads
     }
