@@ -8,7 +8,6 @@ use tk_dbm::{Dbm, Pass, StoreList};
 use tk_disk::MemDisk;
 use tk_mem::TinyStore;
 use tk_model::{NoMemory, ShardOf};
-use tk_proc::{At, OpenGate};
 use tk_status::Status;
 use tk_store::SeqStore;
 
@@ -20,13 +19,6 @@ const LIMIT: u64 = 1 << 30;
 
 /// How many locks the keys share.
 const STRIPES: u32 = 64;
-
-/// No call of this program stops at a gate.
-pub const FREE: At<'static, OpenGate> = At {
-    gate: &OpenGate,
-    worker: 0,
-    line: 0,
-};
 
 /// A list of this store alone.
 fn one(alloc: Global, store: Store) -> Result<StoreList<Store>, NoMemory>

@@ -6,25 +6,35 @@ ghost use Rattle.example_sessions.specs.Sessions.{IsOurs};
 
 mod database;
 mod failure;
-mod visitor;
+mod shop;
 
-use database::{FREE, Store, close, open};
-use failure::{Failure, is_done};
+use database::{Store, close, open};
+use failure::Failure;
+use shop::Shop;
 use std::alloc::Global;
 use std::process::ExitCode;
 use std::sync::Wait;
 use std::thread::{self, Threads};
 use tk_dbm::{Dbm, Pass};
-use tk_derived::{get, increment, remove, set};
 use tk_disk::MemDisk;
 use tk_model::{Bytes, FaultList, NoMemory};
 use tk_status::Status;
-use visitor::{VISITS, Visitor, run};
 
 const THREADS: u8 = 4;
 
+/// How many pages a visitor looks at.
+const PAGES: u32 = 25;
+
 /// How many bytes the disk can hold.
 const ROOM: u64 = 1 << 20;
+
+/// The pass of a thread, its session, and what it found.
+#[derive(Drop)]
+struct Visitor {
+    pass: Pass,
+    session: [u8; 2],
+    was_first: Result<bool, Failure>,
+}
 
 /// A visitor for each thread, with a part of the pass.
 fn visitors(alloc: Global, db: &Dbm<Store>, pass: &mut Pass) -> Result<Vec<Visitor>, NoMemory>
@@ -43,6 +53,18 @@ fn visitors(alloc: Global, db: &Dbm<Store>, pass: &mut Pass) -> Result<Vec<Visit
     Ok(visitors)
 }
 
+/// What one thread does.
+fn stay<R: Wait>(shop: &Shop<R>, pass: &mut Pass, session: &[u8; 2]) -> Result<bool, Failure>
+    requires own { IsOurs shop.now.db.now pass.old }
+    ensures own { IsOurs shop.now.db.now pass.new }
+{
+    let was_first = shop.come(pass, session)?;
+    for _ in 0..PAGES {
+        shop.visit(pass, session, b"page")?;
+    }
+    Ok(was_first)
+}
+
 /// Joins the parts of the pass, and counts those who came first.
 fn leave(db: &Dbm<Store>, pass: &mut Pass, mut visitors: Vec<Visitor>) -> Result<usize, Failure>
     requires own { IsOurs db.now pass.old }
@@ -58,67 +80,31 @@ fn leave(db: &Dbm<Store>, pass: &mut Pass, mut visitors: Vec<Visitor>) -> Result
     Ok(firsts)
 }
 
-/// Has each visitor run in a thread of its own, and counts those who came first.
-fn serve<R: Threads + Wait + Sync>(
-    rt: &R,
-    alloc: Global,
-    db: &Dbm<Store>,
-    pass: &mut Pass,
-) -> Result<usize, Failure>
-    requires own { IsOurs db.now pass.old }
-    ensures own { IsOurs db.now pass.new }
+/// Has each visitor stay in a thread of its own, and counts those who came first.
+fn serve<R: Threads + Wait + Sync>(shop: &Shop<R>, pass: &mut Pass) -> Result<usize, Failure>
+    requires own { IsOurs shop.now.db.now pass.old }
+    ensures own { IsOurs shop.now.db.now pass.new }
 {
-    let mut visitors = visitors(alloc, db, pass)?;
+    let mut visitors = visitors(shop.alloc, shop.db, pass)?;
     let threads = visitors.len().max(1);
     thread::for_each_mut(
-        rt,
+        shop.rt,
         &mut visitors,
         threads,
         &|_, visitor: &mut Visitor|
-            requires { IsOurs db.now visitor.now.pass }
-            ensures { IsOurs db.entry.now visitor.exit.now.pass }
-        { run(rt, alloc, db, visitor) },
+            requires { IsOurs shop.now.db.now visitor.now.pass }
+            ensures { IsOurs shop.entry.now.db.now visitor.exit.now.pass }
+        { visitor.was_first = stay(shop, &mut visitor.pass, &visitor.session) },
     );
-    leave(db, pass, visitors)
-}
-
-/// What the counter begins with, where it isn't there from an earlier run.
-fn begin<R: Wait>(rt: &R, alloc: Global, db: &Dbm<Store>, pass: &mut Pass) -> Result<(), Failure>
-    requires own { IsOurs db.now pass.old }
-    ensures own { IsOurs db.now pass.new }
-{
-    let answer = set(alloc, rt, db, pass, VISITS, &[0; 8], false, &FREE);
-    is_done(answer, Status::Duplication)?;
-    Ok(())
-}
-
-/// How many visits were made, and how long the pages of a session are. The session ends.
-fn end<R: Wait>(
-    rt: &R,
-    alloc: Global,
-    db: &Dbm<Store>,
-    pass: &mut Pass,
-    session: &[u8; 2],
-) -> Result<(i64, usize), Failure>
-    requires own { IsOurs db.now pass.old }
-    ensures own { IsOurs db.now pass.new }
-{
-    let mut visits = 0;
-    // -2^63 reads
-    let answer = increment(alloc, rt, db, pass, VISITS, i64::MIN, 0, &mut visits, &FREE);
-    is_done(answer, Status::Success)?;
-    let mut pages = Bytes::new(alloc);
-    let answer = get(alloc, rt, db, pass, session, &mut pages, &FREE);
-    is_done(answer, Status::NotFound)?;
-    is_done(remove(rt, db, pass, session, &FREE), Status::NotFound)?;
-    Ok((visits, pages.len()))
+    leave(shop.db, pass, visitors)
 }
 
 /// A day of the store: opened, used by four threads, closed.
 fn day<R: Threads + Wait + Sync>(rt: &R, alloc: Global, disk: MemDisk) -> Result<MemDisk, Failure> {
     let (db, mut pass) = open(alloc, disk)?;
-    begin(rt, alloc, &db, &mut pass)?;
-    if serve(rt, alloc, &db, &mut pass)? != 1 {
+    let shop = Shop { rt, alloc, db: &db };
+    shop.begin(&mut pass)?;
+    if serve(&shop, &mut pass)? != 1 {
         return Err(Failure::Call(Status::Infeasible));
     }
     close(db, pass)
@@ -129,9 +115,11 @@ fn left<R: Threads + Wait + Sync>(rt: &R, alloc: Global) -> Result<(i64, usize),
     let disk = MemDisk::new(alloc, Bytes::new(alloc), ROOM, FaultList::new(alloc))?;
     let disk = day(rt, alloc, disk)?;
     let (db, mut pass) = open(alloc, disk)?;
-    let found = end(rt, alloc, &db, &mut pass, b"s0")?;
+    let shop = Shop { rt, alloc, db: &db };
+    let visits = shop.visits(&mut pass)?;
+    let pages = shop.end(&mut pass, b"s0")?;
     close(db, pass)?;
-    Ok(found)
+    Ok((visits, pages.len()))
 }
 
 fn main(rt: HostRuntime) -> ExitCode {

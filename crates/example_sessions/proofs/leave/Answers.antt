@@ -1,6 +1,6 @@
 use Rattle.std.proofs.lemmas.List.Elements.{All-pop}
 use Rattle.example_sessions.specs.Sessions.{IsOurs}
-use Rattle.example_sessions.specs.declared.visitor.Visitor.{Visitor}
+use Rattle.example_sessions.specs.declared.Visitor.{Visitor}
 use Rattle.example_sessions.proofs.leave.Goals as goal
 
 pub loop-visitor-preserved : goal.loop-visitor-preserved

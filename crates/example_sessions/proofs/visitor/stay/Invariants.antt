@@ -1,5 +1,0 @@
-use Rattle.example_sessions.specs.Sessions.{IsOurs}
-use Rattle.example_sessions.proofs.visitor.stay.Given as goal
-
-abbrev pub invariant-loop : goal.invariant-loop
-invariant-loop g l = IsOurs l.db l.pass
