@@ -8,7 +8,7 @@ mod database;
 mod failure;
 mod shop;
 
-use database::{Store, close, open};
+use database::{Store, close, disk, open};
 use failure::Failure;
 use shop::Shop;
 use std::alloc::Global;
@@ -16,8 +16,8 @@ use std::process::ExitCode;
 use std::sync::Wait;
 use std::thread::{self, Threads};
 use tk_dbm::{Dbm, Pass};
-use tk_disk::MemDisk;
-use tk_model::{Bytes, FaultList, NoMemory};
+use tk_disk::FileDisk;
+use tk_model::NoMemory;
 use tk_status::Status;
 
 const THREADS: u8 = 4;
@@ -25,15 +25,12 @@ const THREADS: u8 = 4;
 /// How many pages a visitor looks at.
 const PAGES: u32 = 25;
 
-/// How many bytes the disk can hold.
-const ROOM: u64 = 1 << 20;
-
-/// The pass of a thread, its session, and what it found.
+/// The pass of a thread, its session, and how it ended.
 #[derive(Drop)]
 struct Visitor {
     pass: Pass,
     session: [u8; 2],
-    was_first: Result<bool, Failure>,
+    ended: Result<(), Failure>,
 }
 
 /// A visitor for each thread, with a part of the pass.
@@ -47,41 +44,39 @@ fn visitors(alloc: Global, db: &Dbm<Store>, pass: &mut Pass) -> Result<Vec<Visit
         visitors.push(Visitor {
             pass: db.split(pass),
             session: [b's', b'0' + number],
-            was_first: Ok(false),
+            ended: Ok(()),
         })?;
     }
     Ok(visitors)
 }
 
 /// What one thread does.
-fn stay<R: Wait>(shop: &Shop<R>, pass: &mut Pass, session: &[u8; 2]) -> Result<bool, Failure>
+fn stay<R: Wait>(shop: &Shop<R>, pass: &mut Pass, session: &[u8; 2]) -> Result<(), Failure>
     requires own { IsOurs shop.now.db.now pass.old }
     ensures own { IsOurs shop.now.db.now pass.new }
 {
-    let was_first = shop.come(pass, session)?;
+    shop.come(pass, session)?;
     for _ in 0..PAGES {
         shop.visit(pass, session, b"page")?;
     }
-    Ok(was_first)
+    Ok(())
 }
 
-/// Joins the parts of the pass, and counts those who came first.
-fn leave(db: &Dbm<Store>, pass: &mut Pass, mut visitors: Vec<Visitor>) -> Result<usize, Failure>
+/// Joins the parts of the pass, and tells the failure of a thread.
+fn leave(db: &Dbm<Store>, pass: &mut Pass, mut visitors: Vec<Visitor>) -> Result<(), Failure>
     requires own { IsOurs db.now pass.old }
     requires each { All (λ one. IsOurs db.now one.pass) visitors.items }
     ensures own { IsOurs db.now pass.new }
 {
-    let came_first = |visitor: &&Visitor| matches!(visitor.was_first, Ok(true));
-    let firsts = visitors.iter().filter(came_first).count();
     while let Some(visitor) = visitors.pop() {
         db.join(pass, visitor.pass);
-        visitor.was_first?;
+        visitor.ended?;
     }
-    Ok(firsts)
+    Ok(())
 }
 
-/// Has each visitor stay in a thread of its own, and counts those who came first.
-fn serve<R: Threads + Wait + Sync>(shop: &Shop<R>, pass: &mut Pass) -> Result<usize, Failure>
+/// Has each visitor stay in a thread of its own.
+fn serve<R: Threads + Wait + Sync>(shop: &Shop<R>, pass: &mut Pass) -> Result<(), Failure>
     requires own { IsOurs shop.now.db.now pass.old }
     ensures own { IsOurs shop.now.db.now pass.new }
 {
@@ -94,36 +89,45 @@ fn serve<R: Threads + Wait + Sync>(shop: &Shop<R>, pass: &mut Pass) -> Result<us
         &|_, visitor: &mut Visitor|
             requires { IsOurs shop.now.db.now visitor.now.pass }
             ensures { IsOurs shop.entry.now.db.now visitor.exit.now.pass }
-        { visitor.was_first = stay(shop, &mut visitor.pass, &visitor.session) },
+        { visitor.ended = stay(shop, &mut visitor.pass, &visitor.session) },
     );
     leave(shop.db, pass, visitors)
 }
 
 /// A day of the store: opened, used by four threads, closed.
-fn day<R: Threads + Wait + Sync>(rt: &R, alloc: Global, disk: MemDisk) -> Result<MemDisk, Failure> {
+fn day<R: Threads + Wait + Sync>(
+    rt: &R,
+    alloc: Global,
+    disk: FileDisk,
+) -> Result<FileDisk, Failure> {
     let (db, mut pass) = open(alloc, disk)?;
     let shop = Shop { rt, alloc, db: &db };
     shop.begin(&mut pass)?;
-    if serve(&shop, &mut pass)? != 1 {
-        return Err(Failure::Call(Status::Infeasible));
-    }
+    serve(&shop, &mut pass)?;
     close(db, pass)
 }
 
-/// What a day left in the file.
-fn left<R: Threads + Wait + Sync>(rt: &R, alloc: Global) -> Result<(i64, usize), Failure> {
-    let disk = MemDisk::new(alloc, Bytes::new(alloc), ROOM, FaultList::new(alloc))?;
-    let disk = day(rt, alloc, disk)?;
+/// Opened again: how many visits there were so far, and how long the pages of the session that came first are, which ends.
+fn look<R: Wait>(rt: &R, alloc: Global, disk: FileDisk) -> Result<(i64, usize), Failure> {
     let (db, mut pass) = open(alloc, disk)?;
     let shop = Shop { rt, alloc, db: &db };
     let visits = shop.visits(&mut pass)?;
-    let pages = shop.end(&mut pass, b"s0")?;
+    let length = match shop.first(&mut pass)? {
+        Some(session) => shop.end(&mut pass, &session)?.len(),
+        None => 0,
+    };
     close(db, pass)?;
-    Ok((visits, pages.len()))
+    Ok((visits, length))
+}
+
+fn run<R: Threads + Wait + Sync>(host: &HostRuntime, rt: &R) -> Result<(i64, usize), Failure> {
+    let disk = disk(host, "sessions.tkh")?;
+    let disk = day(rt, host.alloc(), disk)?;
+    look(rt, host.alloc(), disk)
 }
 
 fn main(rt: HostRuntime) -> ExitCode {
-    match left(&rt, rt.alloc()) {
+    match run(&rt, &rt) {
         Ok((visits, length)) => {
             // There is nowhere to tell that a line wasn't printed.
             let _ = println!(rt; "{visits} visits, the first session had {length} bytes");

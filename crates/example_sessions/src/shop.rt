@@ -46,8 +46,8 @@ impl<R: Wait> Shop<'_, R> {
         Ok(())
     }
 
-    /// Puts the session's name down as the first, where nobody's is.
-    pub fn come(&self, pass: &mut Pass, session: &[u8; 2]) -> Result<bool, Failure>
+    /// Puts the session's name down as the first, where none is.
+    pub fn come(&self, pass: &mut Pass, session: &[u8; 2]) -> Result<(), Failure>
         requires own { IsOurs self.now.db.now pass.old }
         ensures own { IsOurs self.now.db.now pass.new }
     {
@@ -57,7 +57,8 @@ impl<R: Wait> Shop<'_, R> {
         let answer = compare_exchange(
             self.alloc, self.rt, self.db, pass, FIRST, &none, &name, &mut was, &FREE,
         );
-        is_done(answer, Status::Infeasible)
+        is_done(answer, Status::Infeasible)?;
+        Ok(())
     }
 
     /// A visit of a page: it goes behind the pages of the session, and all visits are one more.
@@ -107,7 +108,18 @@ impl<R: Wait> Shop<'_, R> {
         Ok(visits)
     }
 
-    /// Ends a session, and hands out its pages, where there are some.
+    /// The session that came first. A key from the store is tested, since a proof knows nothing of it.
+    pub fn first(&self, pass: &mut Pass) -> Result<Option<[u8; 2]>, Failure>
+        requires own { IsOurs self.now.db.now pass.old }
+        ensures own { IsOurs self.now.db.now pass.new }
+    {
+        let mut name = Bytes::new(self.alloc);
+        let answer = get(self.alloc, self.rt, self.db, pass, FIRST, &mut name, &FREE);
+        is_done(answer, Status::NotFound)?;
+        Ok(<[u8; 2]>::try_from(name.as_slice()).ok())
+    }
+
+    /// Ends the session that came first, and hands out its pages.
     pub fn end(&self, pass: &mut Pass, session: &[u8; 2]) -> Result<Bytes, Failure>
         requires own { IsOurs self.now.db.now pass.old }
         ensures own { IsOurs self.now.db.now pass.new }
@@ -116,12 +128,15 @@ impl<R: Wait> Shop<'_, R> {
         let answer = get(
             self.alloc, self.rt, self.db, pass, session, &mut pages, &FREE,
         );
-        if is_done(answer, Status::NotFound)? {
-            is_done(
-                remove(self.rt, self.db, pass, session, &FREE),
-                Status::NotFound,
-            )?;
-        }
+        is_done(answer, Status::NotFound)?;
+        is_done(
+            remove(self.rt, self.db, pass, session, &FREE),
+            Status::NotFound,
+        )?;
+        is_done(
+            remove(self.rt, self.db, pass, FIRST, &FREE),
+            Status::NotFound,
+        )?;
         Ok(pages)
     }
 }
