@@ -70,36 +70,32 @@ impl<R: Wait> Shop<'_, R> {
             self.alloc, self.rt, self.db, pass, session, page, b",", &FREE,
         );
         is_done(answer, Status::Success)?;
-        let mut visits = 0;
-        let answer = increment(
-            self.alloc,
-            self.rt,
-            self.db,
-            pass,
-            VISITS,
-            1,
-            0,
-            &mut visits,
-            &FREE,
-        );
-        is_done(answer, Status::Success)?;
+        self.count(pass, 1)?;
         Ok(())
     }
 
-    /// How many visits there were. -2^63 adds nothing.
+    /// How many visits there were.
     pub fn visits(&self, pass: &mut Pass) -> Result<i64, Failure>
         requires own { IsOurs self.now.db.now pass.old }
         ensures own { IsOurs self.now.db.now pass.new }
     {
+        // -2^63 reads
+        self.count(pass, i64::MIN)
+    }
+
+    /// Adds to the counter of all visits, and tells it.
+    fn count(&self, pass: &mut Pass, more: i64) -> Result<i64, Failure>
+        requires own { IsOurs self.now.db.now pass.old }
+        ensures own { IsOurs self.now.db.now pass.new }
+    {
         let mut visits = 0;
-        let read = i64::MIN;
         let answer = increment(
             self.alloc,
             self.rt,
             self.db,
             pass,
             VISITS,
-            read,
+            more,
             0,
             &mut visits,
             &FREE,
