@@ -1,9 +1,11 @@
 #!/usr/bin/env python3
-"""Looks up each name that a page of docs/ or README.md gives in backquotes in the sources.
+"""Looks up each name that a page of docs/ or README.md gives in backquotes in the sources, and each line of its code.
 
 A row of a table whose columns are headed Promise, Crate, Function and Clause must name a function of that crate and clauses that
 stand on it. Any other name in backquotes that looks like one of the sources (a word with `_`, `::` or a capital inside,
-or one behind which brackets stand) must stand in a source file. The last line is `promises: N names, M not found`.
+or one behind which brackets stand) must stand in a source file. A block of code that begins with ```rust or ```antt must
+stand in one source file as it is, but for indentation and empty lines. The last line is `promises: N names, M not found`;
+a block counts as a name.
 """
 import os
 import re
@@ -16,19 +18,34 @@ OUTSIDE = {"tkrzw_dbm_util", "PATH", "TKPHASH", "TKPFLAT", "TKB1", "LF", "TAB", 
 OUTSIDE |= {"SUCCESS", "NOT_FOUND_ERROR", "FULL", "FILE", "KEY", "VALUE", "OLD", "NEW", "GLOBAL", "GLIBC_TUNABLES"}
 
 
-def sources():
-    """The text of each crate's sources, by the crate's name."""
-    crates = {}
+def source_files():
+    """Each crate's name with the text of each of its source files."""
     for name in sorted(os.listdir(os.path.join(HOME, "crates"))):
-        text = []
         for part in ("src", "specs", "proofs"):
             for top, _, files in os.walk(os.path.join(HOME, "crates", name, part)):
                 for file in sorted(files):
                     if file.endswith((".rt", ".antt")):
                         with open(os.path.join(top, file), encoding="utf-8") as it:
-                            text.append(it.read())
-        crates[name] = "\n".join(text)
-    return crates
+                            yield name, it.read()
+
+
+def code_lines(text):
+    """The lines of code, without indentation and empty lines."""
+    return [line.strip() for line in text.split("\n") if line.strip()]
+
+
+def block_faults(files, page):
+    """The blocks of code of a page that stand in no source file, and how many blocks it has."""
+    with open(os.path.join(HOME, page), encoding="utf-8") as it:
+        text = it.read()
+    blocks = list(re.finditer(r"^```(rust|antt)\n(.*?)^```$", text, re.M | re.S))
+    faults = []
+    for block in blocks:
+        lines = "\n" + "\n".join(code_lines(block[2])) + "\n"
+        if not any(lines in file for file in files):
+            number = text.count("\n", 0, block.start()) + 1
+            faults.append(f"{page}:{number}: this code is in no source")
+    return len(blocks), faults
 
 
 def clauses_of(text, function):
@@ -87,14 +104,17 @@ def page_faults(crates, words, page):
 
 
 def main():
-    crates = sources()
+    texts = list(source_files())
+    files = ["\n" + "\n".join(code_lines(text)) + "\n" for _, text in texts]
+    crates = {name: "\n".join(text for owner, text in texts if owner == name) for name in sorted({name for name, _ in texts})}
     words = set(crates) | {word for text in crates.values() for word in WORD.findall(text)}
     pages = ["README.md"] + [os.path.join("docs", name) for name in sorted(os.listdir(os.path.join(HOME, "docs"))) if name.endswith(".md")]
     total, faults = 0, []
     for page in pages:
         names, found = page_faults(crates, words, page)
-        total += names
-        faults += found
+        blocks, unknown = block_faults(files, page)
+        total += names + blocks
+        faults += found + unknown
     print("\n".join(faults + [f"promises: {total} names, {len(faults)} not found"]))
     return int(bool(faults))
 

@@ -1,0 +1,30 @@
+use std::alloc::AllocError;
+use std::io;
+use thiserror::Error;
+use tk_dbm::Answer;
+use tk_model::{NoMemory, OpenError};
+use tk_status::Status;
+
+/// Why the program ended early.
+#[derive(Debug, Drop, Error)]
+pub enum Failure {
+    #[error("no memory")]
+    NoMemory(#[from] NoMemory),
+    #[error("no memory")]
+    Alloc(#[from] AllocError),
+    #[error("{0}")]
+    Io(#[from] io::Error),
+    #[error("not opened: {0}")]
+    Open(OpenError),
+    #[error("not done: {0:?}")]
+    Call(Status),
+}
+
+/// Whether a call did what it was asked for, or said the no that its caller counts on. Any other answer is a failure.
+pub fn is_done(answer: Answer, no: Status) -> Result<bool, Failure> {
+    match answer.status {
+        Status::Success => Ok(true),
+        status if status == no => Ok(false),
+        status => Err(Failure::Call(status)),
+    }
+}
