@@ -8,7 +8,6 @@ use Rattle.tk_model.specs.declared.record.Pair.{Pair}
 use Rattle.tk_page.specs.declared.page.Child.{Child}
 use Rattle.tk_page.specs.declared.page.Page.{Page}
 use Rattle.tk_page.specs.declared.page.Page.TheVariants.{Leaf, Inner}
-use Rattle.tk_page.specs.declared.read.ChildHere.{ChildHere}
 
 -- ---- what is written
 
@@ -114,7 +113,3 @@ page_in text =
     then (if slice_index text 0 == 1 then leaf_of (items_in record_at record_size (count_in text) (drop 5 text))
     else (if slice_index text 0 == 2 then inner_of (items_in child_at child_size (count_in text) (drop 5 text)) else None))
     else None
-
--- the child of a front, without what is behind it
-abbrev pub child_seen : ChildHere → Child
-child_seen here = record { page = here.page; key = here.key.now }

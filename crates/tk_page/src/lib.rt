@@ -4,11 +4,15 @@
 mod meta;
 mod page;
 mod read;
+mod search;
+mod view;
 mod write;
 
 pub use meta::{Meta, read_meta, write_meta};
 pub use page::{Child, ChildList, Page};
-pub use read::{ChildHere, child_here, read_page};
+pub use read::read_page;
+pub use search::{find_child, find_value};
+pub use view::{ChildHere, ChildHereList, PageHere, RecordHereList, page_here};
 pub use write::write_page;
 
 #[cfg(test)]

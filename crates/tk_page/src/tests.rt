@@ -1,1 +1,205 @@
 use super::*;
+use std::alloc::Global;
+use std::test::Fail;
+use tk_model::{Bytes, ListOf, NoMemory, Order, Pair, PairList, RecordHere, compare_keys};
+
+// Worked by hand from the layout.
+static LEAF: &[u8] = b"\x01\0\0\0\x02\0\x01\0\0\0\x02axy\0\x02\0\0\0\0bc";
+
+static INNER: &[u8] = b"\x02\0\0\0\x02\0\0\0\0\0\0\0\x01\0\0\0\0\0\0\0\0\x01\x02\0\x02bc";
+
+static META: &[u8] = b"\0\0\0\0\0\0\0\x05\x02\0\0\0\0\0\0\x01\0\0\0\0\0\0\0\0\x03";
+
+fn bytes(alloc: Global, of: &[u8]) -> Result<Bytes, NoMemory> {
+    Bytes::from_slice(alloc, of)
+}
+
+fn leaf(alloc: Global, of: &[(&[u8], &[u8])]) -> Result<Page, NoMemory> {
+    let mut pairs = PairList::new(alloc);
+    for (key, value) in of {
+        let key = bytes(alloc, key)?;
+        let value = bytes(alloc, value)?;
+        pairs.push(Pair { key, value })?;
+    }
+    Ok(Page::Leaf(pairs))
+}
+
+fn inner(alloc: Global, of: &[(u64, &[u8])]) -> Result<Page, NoMemory> {
+    let mut children = ChildList::new(alloc);
+    for (page, key) in of {
+        let key = bytes(alloc, key)?;
+        children.push(Child { page: *page, key })?;
+    }
+    Ok(Page::Inner(children))
+}
+
+/// The last bytes of a number, the high one first, by the plain rule.
+fn put_number(out: &mut Bytes, number: u64, width: u32) -> Result<(), NoMemory> {
+    for i in 0..width {
+        let shift = 8 * (width - 1 - i);
+        out.push((number >> shift & 0xff) as u8)?;
+    }
+    Ok(())
+}
+
+/// The text of a page by the plain rule, byte by byte.
+fn plain_text(alloc: Global, page: &Page) -> Result<Bytes, NoMemory> {
+    let mut out = Bytes::new(alloc);
+    match page {
+        Page::Leaf(pairs) => {
+            put_number(&mut out, 1, 1)?;
+            put_number(&mut out, pairs.len() as u64, 4)?;
+            for pair in pairs.as_slice() {
+                put_number(&mut out, pair.key.len() as u64, 2)?;
+                put_number(&mut out, pair.value.len() as u64, 4)?;
+                out.extend(pair.key.as_slice())?;
+                out.extend(pair.value.as_slice())?;
+            }
+        }
+        Page::Inner(children) => {
+            put_number(&mut out, 2, 1)?;
+            put_number(&mut out, children.len() as u64, 4)?;
+            for child in children.as_slice() {
+                put_number(&mut out, child.page, 8)?;
+                put_number(&mut out, child.key.len() as u64, 2)?;
+                out.extend(child.key.as_slice())?;
+            }
+        }
+    }
+    Ok(out)
+}
+
+/// The page is written as the plain rule says, read back, and seen where it lies.
+fn goes_round(rt: &HostRuntime, page: &Page) -> Result<Bytes, NoMemory> {
+    let plain = plain_text(rt.alloc(), page)?;
+    let mut text = bytes(rt.alloc(), b"before")?;
+    write_page(page, &mut text)?;
+    assert_eq!(rt; &text.as_slice()[..6], b"before".as_slice());
+    assert_eq!(rt; &text.as_slice()[6..], plain.as_slice());
+    let Some(copy) = read_page(rt.alloc(), plain.as_slice())? else {
+        panic!(rt; "no page");
+    };
+    let again = plain_text(rt.alloc(), &copy)?;
+    assert_eq!(rt; again.as_slice(), plain.as_slice());
+    let counts = match (page_here(rt.alloc(), plain.as_slice())?, page) {
+        (Some(PageHere::Leaf(here)), Page::Leaf(pairs)) => (here.len(), pairs.len()),
+        (Some(PageHere::Inner(here)), Page::Inner(children)) => (here.len(), children.len()),
+        _ => (0, 1),
+    };
+    assert_eq!(rt; counts.0, counts.1);
+    Ok(plain)
+}
+
+fn is_page(rt: &HostRuntime, text: &[u8]) -> Result<bool, NoMemory> {
+    let seen = page_here(rt.alloc(), text)?.is_some();
+    assert_eq!(rt; read_page(rt.alloc(), text)?.is_some(), seen);
+    Ok(seen)
+}
+
+#[test]
+fn worked_rows(rt: HostRuntime) -> Result<(), Fail> {
+    let alloc = rt.alloc();
+    let page = leaf(alloc, &[(b"a", b"xy"), (b"bc", b"")])?;
+    assert_eq!(rt; goes_round(&rt, &page)?.as_slice(), LEAF);
+    let page = inner(alloc, &[(1, b""), (258, b"bc")])?;
+    assert_eq!(rt; goes_round(&rt, &page)?.as_slice(), INNER);
+    let page = leaf(alloc, &[])?;
+    assert_eq!(rt; goes_round(&rt, &page)?.as_slice(), b"\x01\0\0\0\0".as_slice());
+    let page = inner(alloc, &[])?;
+    assert_eq!(rt; goes_round(&rt, &page)?.as_slice(), b"\x02\0\0\0\0".as_slice());
+    let page = leaf(alloc, &[(b"", b""), (b"", b"")])?;
+    goes_round(&rt, &page)?;
+    let page = inner(alloc, &[(u64::MAX, b"")])?;
+    goes_round(&rt, &page)?;
+    Ok(())
+}
+
+#[test]
+fn page_0_is_written_and_read(rt: HostRuntime) {
+    let meta = Meta {
+        root: 5,
+        height: 2,
+        next: 256,
+        count: 3,
+    };
+    assert_eq!(rt; write_meta(&meta).as_slice(), META);
+    assert_eq!(rt; read_meta(META), Some(meta));
+    assert_eq!(rt; read_meta(&META[1..]), None);
+    assert_eq!(rt; read_meta(LEAF), None);
+}
+
+#[test]
+fn texts_of_no_page(rt: HostRuntime) -> Result<(), Fail> {
+    for text in [LEAF, INNER] {
+        for end in 0..text.len() {
+            assert!(rt; !is_page(&rt, &text[..end])?, "end {end}");
+        }
+        assert!(rt; is_page(&rt, text)?);
+        let mut more = bytes(rt.alloc(), text)?;
+        more.push(0)?;
+        assert!(rt; !is_page(&rt, more.as_slice())?);
+    }
+    // A kind that isn't there, a count too low, a first key that isn't empty.
+    assert!(rt; !is_page(&rt, b"\0\0\0\0\0")?);
+    assert!(rt; !is_page(&rt, b"\x03\0\0\0\0")?);
+    assert!(rt; !is_page(&rt, b"\x01\0\0\0\x01\0\0\0\0\0\0\0\0\0\0\0\0")?);
+    assert!(rt; !is_page(&rt, b"\x02\0\0\0\x01\0\0\0\0\0\0\0\x01\0\x01a")?);
+    // No test of a page's own text sees that keys fall, or that a child has the number 0.
+    assert!(rt; is_page(&rt, b"\x01\0\0\0\x02\0\x01\0\0\0\0b\0\x01\0\0\0\0a")?);
+    assert!(rt; is_page(&rt, b"\x02\0\0\0\x01\0\0\0\0\0\0\0\0\0\0")?);
+    Ok(())
+}
+
+static NUMBERS: [&[u8]; 7] = [b"-7", b"0", b"1", b"+2", b"10", b"10x", b"200"];
+
+#[test]
+fn one_record_is_found(rt: HostRuntime) -> Result<(), Fail> {
+    let mut page = ListOf::new(rt.alloc());
+    for count in 0..NUMBERS.len() {
+        for (at, key) in NUMBERS.iter().enumerate() {
+            let found = find_value(&Order::Decimal, page.as_slice(), key);
+            if at < count {
+                assert_eq!(rt; found, Some(&key[1..]), "{at} of {count}");
+            } else {
+                assert_eq!(rt; found, None, "{at} of {count}");
+            }
+        }
+        page.push(RecordHere {
+            key: NUMBERS[count],
+            value: &NUMBERS[count][1..],
+            rest: b"",
+        })?;
+    }
+    assert_eq!(rt; find_value(&Order::Decimal, page.as_slice(), b"01"), None);
+    Ok(())
+}
+
+/// The child for a key, by going through all.
+fn plain_child(order: &Order, children: &[ChildHere<'_>], key: &[u8]) -> Option<u64> {
+    let mut found = None;
+    for (at, child) in children.iter().enumerate() {
+        if at == 0 || compare_keys(order, child.key, key).is_le() {
+            found = Some(child.page);
+        }
+    }
+    found
+}
+
+#[test]
+fn one_child_is_found(rt: HostRuntime) -> Result<(), Fail> {
+    let mut page = ListOf::new(rt.alloc());
+    for count in 0..NUMBERS.len() {
+        for key in [b"-8".as_slice(), b"-7", b"0", b"1", b"01", b"5", b"10y", b"3000"] {
+            let found = find_child(&Order::Decimal, page.as_slice(), key);
+            assert_eq!(rt; found, plain_child(&Order::Decimal, page.as_slice(), key));
+        }
+        page.push(ChildHere {
+            page: 10 + count as u64,
+            key: if count == 0 { b"" } else { NUMBERS[count] },
+            rest: b"",
+        })?;
+    }
+    assert_eq!(rt; find_child(&Order::Decimal, page.as_slice(), b"9"), Some(13));
+    assert_eq!(rt; find_child(&Order::Decimal, page.as_slice(), b"-8"), Some(10));
+    Ok(())
+}

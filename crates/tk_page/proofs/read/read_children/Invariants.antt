@@ -1,7 +1,0 @@
-use Rattle.std.proofs.Common.{◌≡◌, ◌-◌}
-use Rattle.tk_page.specs.Page.{child_at, child_size, items_in}
-use Rattle.tk_page.proofs.Reading.{with_front}
-use Rattle.tk_page.proofs.read.read_children.Given as goal
-
-abbrev pub invariant-loop-done : goal.invariant-loop-done
-invariant-loop-done l = with_front l.children (items_in child_at child_size (l.count - l.done) l.rest) ≡ items_in child_at child_size l.count l.bytes

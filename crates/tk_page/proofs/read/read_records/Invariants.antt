@@ -1,8 +1,0 @@
-use Rattle.std.proofs.Common.{◌≡◌, ◌-◌}
-use Rattle.tk_model.specs.RecordText.{record_at, record_size}
-use Rattle.tk_page.specs.Page.{items_in}
-use Rattle.tk_page.proofs.Reading.{with_front}
-use Rattle.tk_page.proofs.read.read_records.Given as goal
-
-abbrev pub invariant-loop-done : goal.invariant-loop-done
-invariant-loop-done l = with_front l.pairs (items_in record_at record_size (l.count - l.done) l.rest) ≡ items_in record_at record_size l.count l.bytes
