@@ -17,15 +17,15 @@ pub record FitsMeta (m : Meta) : Type 0 where
 abbrev pub number_at : (a b c d e f g h : ℕ) → List ℕ → ℕ
 number_at a b c d e f g h text =
     from_be_bytes w64 (
-      slice_index text a
-        ∷ slice_index text b
-        ∷ slice_index text c
-        ∷ slice_index text d
-        ∷ slice_index text e
-        ∷ slice_index text f
-        ∷ slice_index text g
-        ∷ slice_index text h
-        ∷ []
+    slice_index text a
+    ∷ slice_index text b
+    ∷ slice_index text c
+    ∷ slice_index text d
+    ∷ slice_index text e
+    ∷ slice_index text f
+    ∷ slice_index text g
+    ∷ slice_index text h
+    ∷ []
     )
 
 abbrev pub meta_fields : List ℕ → Meta

@@ -53,15 +53,15 @@ FitsPage (Inner children) = (length children < 2 ^ 32) × All FitsChild children
 abbrev pub link_number : List ℕ → ℕ
 link_number text =
     from_be_bytes w64 (
-      slice_index text 0
-        ∷ slice_index text 1
-        ∷ slice_index text 2
-        ∷ slice_index text 3
-        ∷ slice_index text 4
-        ∷ slice_index text 5
-        ∷ slice_index text 6
-        ∷ slice_index text 7
-        ∷ []
+    slice_index text 0
+    ∷ slice_index text 1
+    ∷ slice_index text 2
+    ∷ slice_index text 3
+    ∷ slice_index text 4
+    ∷ slice_index text 5
+    ∷ slice_index text 6
+    ∷ slice_index text 7
+    ∷ []
     )
 
 abbrev pub link_length : List ℕ → ℕ

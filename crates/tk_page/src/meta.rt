@@ -22,8 +22,31 @@ pub fn write_meta(meta: &Meta) -> [u8; 25]
     let n = meta.next.to_be_bytes();
     let c = meta.count.to_be_bytes();
     [
-        r[0], r[1], r[2], r[3], r[4], r[5], r[6], r[7], meta.height, n[0], n[1], n[2], n[3], n[4],
-        n[5], n[6], n[7], c[0], c[1], c[2], c[3], c[4], c[5], c[6], c[7],
+        r[0],
+        r[1],
+        r[2],
+        r[3],
+        r[4],
+        r[5],
+        r[6],
+        r[7],
+        meta.height,
+        n[0],
+        n[1],
+        n[2],
+        n[3],
+        n[4],
+        n[5],
+        n[6],
+        n[7],
+        c[0],
+        c[1],
+        c[2],
+        c[3],
+        c[4],
+        c[5],
+        c[6],
+        c[7],
     ]
 }
 

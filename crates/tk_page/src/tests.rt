@@ -69,48 +69,77 @@ fn plain_text(alloc: Global, page: &Page) -> Result<Bytes, NoMemory> {
     Ok(out)
 }
 
-/// The page is written as the plain rule says, read back, and seen where it lies.
-fn goes_round(rt: &HostRuntime, page: &Page) -> Result<Bytes, NoMemory> {
+fn count_of(page: &Page) -> usize {
+    match page {
+        Page::Leaf(pairs) => pairs.len(),
+        Page::Inner(children) => children.len(),
+    }
+}
+
+fn count_here(page: &PageHere<'_>) -> usize {
+    match page {
+        PageHere::Leaf(records) => records.len(),
+        PageHere::Inner(children) => children.len(),
+    }
+}
+
+/// The page is written as this text, behind what is there, as the plain rule says, and is read back.
+fn is_text(rt: &HostRuntime, page: &Page, text: &[u8]) -> Result<bool, NoMemory> {
+    let mut out = bytes(rt.alloc(), b"before")?;
+    write_page(page, &mut out)?;
     let plain = plain_text(rt.alloc(), page)?;
-    let mut text = bytes(rt.alloc(), b"before")?;
-    write_page(page, &mut text)?;
-    assert_eq!(rt; &text.as_slice()[..6], b"before".as_slice());
-    assert_eq!(rt; &text.as_slice()[6..], plain.as_slice());
-    let Some(copy) = read_page(rt.alloc(), plain.as_slice())? else {
-        panic!(rt; "no page");
+    let Some(copy) = read_page(rt.alloc(), text)? else {
+        return Ok(false);
+    };
+    let Some(here) = page_here(rt.alloc(), text)? else {
+        return Ok(false);
     };
     let again = plain_text(rt.alloc(), &copy)?;
-    assert_eq!(rt; again.as_slice(), plain.as_slice());
-    let counts = match (page_here(rt.alloc(), plain.as_slice())?, page) {
-        (Some(PageHere::Leaf(here)), Page::Leaf(pairs)) => (here.len(), pairs.len()),
-        (Some(PageHere::Inner(here)), Page::Inner(children)) => (here.len(), children.len()),
-        _ => (0, 1),
-    };
-    assert_eq!(rt; counts.0, counts.1);
-    Ok(plain)
+    Ok(
+        out.as_slice().starts_with(b"before")
+            && &out.as_slice()[6..] == text
+            && plain.as_slice() == text
+            && again.as_slice() == text
+            && count_here(&here) == count_of(page),
+    )
 }
 
 fn is_page(rt: &HostRuntime, text: &[u8]) -> Result<bool, NoMemory> {
-    let seen = page_here(rt.alloc(), text)?.is_some();
-    assert_eq!(rt; read_page(rt.alloc(), text)?.is_some(), seen);
-    Ok(seen)
+    let here = page_here(rt.alloc(), text)?.is_some();
+    let copy = read_page(rt.alloc(), text)?.is_some();
+    Ok(here && copy)
 }
 
 #[test]
 fn worked_rows(rt: HostRuntime) -> Result<(), Fail> {
     let alloc = rt.alloc();
     let page = leaf(alloc, &[(b"a", b"xy"), (b"bc", b"")])?;
-    assert_eq!(rt; goes_round(&rt, &page)?.as_slice(), LEAF);
+    assert!(rt; is_text(&rt, &page, LEAF)?);
+    assert!(rt; !is_text(&rt, &page, INNER)?);
     let page = inner(alloc, &[(1, b""), (258, b"bc")])?;
-    assert_eq!(rt; goes_round(&rt, &page)?.as_slice(), INNER);
+    assert!(rt; is_text(&rt, &page, INNER)?);
     let page = leaf(alloc, &[])?;
-    assert_eq!(rt; goes_round(&rt, &page)?.as_slice(), b"\x01\0\0\0\0".as_slice());
+    assert!(rt; is_text(&rt, &page, b"\x01\0\0\0\0")?);
     let page = inner(alloc, &[])?;
-    assert_eq!(rt; goes_round(&rt, &page)?.as_slice(), b"\x02\0\0\0\0".as_slice());
+    assert!(rt; is_text(&rt, &page, b"\x02\0\0\0\0")?);
     let page = leaf(alloc, &[(b"", b""), (b"", b"")])?;
-    goes_round(&rt, &page)?;
+    assert!(rt; is_text(&rt, &page, b"\x01\0\0\0\x02\0\0\0\0\0\0\0\0\0\0\0\0")?);
     let page = inner(alloc, &[(u64::MAX, b"")])?;
-    goes_round(&rt, &page)?;
+    let text = b"\x02\0\0\0\x01\xff\xff\xff\xff\xff\xff\xff\xff\0\0";
+    assert!(rt; is_text(&rt, &page, text)?);
+    Ok(())
+}
+
+#[test]
+fn a_long_page(rt: HostRuntime) -> Result<(), Fail> {
+    let value = Vec::from_elem(rt.alloc(), 7, 70_000)?;
+    let page = leaf(
+        rt.alloc(),
+        &[(b"k", value.as_slice()), (&value[..65_535], b"v")],
+    )?;
+    let text = plain_text(rt.alloc(), &page)?;
+    assert_eq!(rt; text.len(), 5 + 7 + 70_000 + 7 + 65_535);
+    assert!(rt; is_text(&rt, &page, text.as_slice())?);
     Ok(())
 }
 
@@ -189,7 +218,16 @@ fn plain_child(order: &Order, children: &[ChildHere<'_>], key: &[u8]) -> Option<
 fn one_child_is_found(rt: HostRuntime) -> Result<(), Fail> {
     let mut page = ListOf::new(rt.alloc());
     for count in 0..NUMBERS.len() {
-        for key in [b"-8".as_slice(), b"-7", b"0", b"1", b"01", b"5", b"10y", b"3000"] {
+        for key in [
+            b"-8".as_slice(),
+            b"-7",
+            b"0",
+            b"1",
+            b"01",
+            b"5",
+            b"10y",
+            b"3000",
+        ] {
             let found = find_child(&Order::Decimal, page.as_slice(), key);
             assert_eq!(rt; found, plain_child(&Order::Decimal, page.as_slice(), key));
         }
@@ -199,7 +237,13 @@ fn one_child_is_found(rt: HostRuntime) -> Result<(), Fail> {
             rest: b"",
         })?;
     }
-    assert_eq!(rt; find_child(&Order::Decimal, page.as_slice(), b"9"), Some(13));
-    assert_eq!(rt; find_child(&Order::Decimal, page.as_slice(), b"-8"), Some(10));
+    assert_eq!(rt;
+        find_child(&Order::Decimal, page.as_slice(), b"9"),
+        Some(13)
+    );
+    assert_eq!(rt;
+        find_child(&Order::Decimal, page.as_slice(), b"-8"),
+        Some(10)
+    );
     Ok(())
 }

@@ -21,9 +21,7 @@ fn link_text(child: &Child) -> [u8; 10]
 {
     let p = child.page.to_be_bytes();
     let k = (child.key.len() as u16).to_be_bytes();
-    [
-        p[0], p[1], p[2], p[3], p[4], p[5], p[6], p[7], k[0], k[1],
-    ]
+    [p[0], p[1], p[2], p[3], p[4], p[5], p[6], p[7], k[0], k[1]]
 }
 
 #[tactic(auto, using(crate::proofs::Extending::Extends_same, crate::proofs::Extending::Extends_by), unfolding(crate::specs::Page::child_text))]
