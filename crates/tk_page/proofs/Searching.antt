@@ -1,6 +1,6 @@
 -- One step of a binary search.
-use Rattle.std.proofs.Common.{◌≡◌, ℕ, ◌<◌, ◌+◌, Bool, true, false, List, [], ◌∷◌, ◌++◌, length, Some, None, refl, sym, ap, subst, ◌∙◌, if◌then◌else◌, length-append, arith}
-use Rattle.std.specs.Ordering.{is_le, is_gt}
+use Rattle.std.proofs.Common.{◌≡◌, ◌↔◌, ℕ, ◌<◌, ◌≤◌, ◌-◌, take, drop, slice_index_or, true, false, List, [], ◌∷◌, ◌++◌, length, Some, refl, sym, ap, subst, ◌∙◌, if◌then◌else◌, length-append, arith}
+use Rattle.std.specs.Ordering.{is_le, is_lt, is_gt}
 use Rattle.std.specs.declared.cmp.Ordering.{Ordering}
 use Rattle.std.specs.declared.cmp.Ordering.TheVariants.{Less, Equal, Greater}
 use Rattle.tk_model.specs.Orders.{same_bytes, key_cmp}
@@ -9,8 +9,7 @@ use Rattle.tk_model.specs.declared.record.Order.{Order}
 use Rattle.tk_model.specs.declared.record.Pair.{Pair}
 use Rattle.tk_model.proofs.KeyOrders.{keys_total, keys_apart, same_itself}
 use Rattle.tk_model.proofs.RecordLaws.{apart_less, apart_greater, behind_earlier, none_behind, flipped, found_deeper}
-use Rattle.std.specs.Prelude.{map}
-use Rattle.std.proofs.lemmas.List.{map-append}
+use Rattle.std.proofs.lemmas.List.{map-append, take_all}
 use Rattle.tk_model.specs.RecordText.{pair_here}
 use Rattle.tk_model.specs.declared.text.RecordHere.{RecordHere}
 use Rattle.tk_page.specs.View.{child_seen, children_seen, records_seen}
@@ -146,3 +145,56 @@ module _ (o : Order) (key : List ℕ) (n : ℕ) (all xs : List ChildHere) (x : C
 
   pub child_more : is_gt (key_cmp o x.key.now key) ≡ false → child_behind o key x.page (children_seen ys) ≡ child_behind o key n (children_seen all)
   child_more within = sym (ap (child_behind o key n) (seen_children all xs x ys is) ∙ behind_more o key n (children_seen xs) (child_seen x) (children_seen ys) lie (not_past (key_cmp o x.key.now key) within))
+
+-- ---- whether keys rise
+
+cut_whole : {A : Type 0} (xs : List A) → take (length xs - 1) (drop 1 xs) ≡ drop 1 xs
+cut_whole [] = refl
+cut_whole (x ∷ xs) = take_all _ xs (omega arith)
+
+less_so : (r : Ordering) → is_lt r ≡ true → r ≡ Less
+less_so Less e = refl
+less_so Equal e = absurd (cc)
+less_so Greater e = absurd (cc)
+
+abbrev key_at : RecordHere → List RecordHere → ℕ → List ℕ
+key_at d xs i = (slice_index_or xs i d).key.now
+
+records_on : (d : RecordHere) (o : Order) (rest : List RecordHere) → 2 ≤ length rest → key_cmp o (key_at d rest 0) (key_at d rest 1) ≡ Less → Rising o (records_seen (drop 1 rest)) ↔ Rising o (records_seen rest)
+records_on d o [] two less = absurd (omega arith)
+records_on d o (x ∷ []) two less = absurd (omega arith)
+records_on d o (x ∷ y ∷ zs) two less = (λ rising. ((less, behind_earlier o x.key.now y.key.now (records_seen zs) less rising.0), rising), λ rising. rising.1)
+
+pub records_short : (o : Order) (rest : List RecordHere) → length rest < 2 → Rising o (records_seen rest)
+records_short o [] few = tt
+records_short o (x ∷ []) few = (tt, tt)
+records_short o (x ∷ y ∷ zs) few = absurd (omega arith)
+
+pub records_step : (d : RecordHere) (o : Order) (All : Type 0) (rest : List RecordHere) → 2 ≤ length rest → is_lt (key_cmp o (key_at d rest 0) (key_at d rest 1)) ≡ true → (Rising o (records_seen rest) ↔ All)
+    → Rising o (records_seen (take (length rest - 1) (drop 1 rest))) ↔ All
+records_step d o All rest two lt same =
+    let on = records_on d o rest two (less_so _ lt) in
+    subst (λ l. Rising o (records_seen l) ↔ All) (sym (cut_whole rest)) (λ rising. same.0 (on.0 rising), λ rising. on.1 (same.1 rising))
+
+past_earlier : (o : Order) (j k : List ℕ) (cs : List Child) → key_cmp o j k ≡ Less → AllPast o k cs → AllPast o j cs
+past_earlier o j k [] e all = tt
+past_earlier o j k (c ∷ cs) e all = ((keys_total o).trans j k c.key e all.0, past_earlier o j k cs e all.1)
+
+abbrev child_key_at : ChildHere → List ChildHere → ℕ → List ℕ
+child_key_at d xs i = (slice_index_or xs i d).key.now
+
+children_on : (d : ChildHere) (o : Order) (rest : List ChildHere) → 2 ≤ length rest → key_cmp o (child_key_at d rest 0) (child_key_at d rest 1) ≡ Less → ChildrenRise o (children_seen (drop 1 rest)) ↔ ChildrenRise o (children_seen rest)
+children_on d o [] two less = absurd (omega arith)
+children_on d o (x ∷ []) two less = absurd (omega arith)
+children_on d o (x ∷ y ∷ zs) two less = (λ rising. ((less, past_earlier o x.key.now y.key.now (children_seen zs) less rising.0), rising), λ rising. rising.1)
+
+pub children_short : (o : Order) (rest : List ChildHere) → length rest < 2 → ChildrenRise o (children_seen rest)
+children_short o [] few = tt
+children_short o (x ∷ []) few = (tt, tt)
+children_short o (x ∷ y ∷ zs) few = absurd (omega arith)
+
+pub children_step : (d : ChildHere) (o : Order) (All : Type 0) (rest : List ChildHere) → 2 ≤ length rest → is_lt (key_cmp o (child_key_at d rest 0) (child_key_at d rest 1)) ≡ true → (ChildrenRise o (children_seen rest) ↔ All)
+    → ChildrenRise o (children_seen (take (length rest - 1) (drop 1 rest))) ↔ All
+children_step d o All rest two lt same =
+    let on = children_on d o rest two (less_so _ lt) in
+    subst (λ l. ChildrenRise o (children_seen l) ↔ All) (sym (cut_whole rest)) (λ rising. same.0 (on.0 rising), λ rising. on.1 (same.1 rising))

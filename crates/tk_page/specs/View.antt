@@ -1,5 +1,5 @@
 -- Pages as they lie in their text, without the bytes behind their parts.
-use Rattle.std.specs.Prelude.{ℕ, List, map}
+use Rattle.std.specs.Prelude.{List, map}
 use Rattle.tk_model.specs.RecordText.{pair_here}
 use Rattle.tk_model.specs.declared.record.Pair.{Pair}
 use Rattle.tk_model.specs.declared.text.RecordHere.{RecordHere}

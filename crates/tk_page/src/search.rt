@@ -1,5 +1,5 @@
 //! One record or one child of a page, by binary search.
-ghost use Rattle.std.specs.Prelude.{◌≡◌, [], ◌∷◌, ◌++◌, IfSome, IfNone};
+ghost use Rattle.std.specs.Prelude.{◌≡◌, ◌↔◌, true, [], ◌∷◌, ◌++◌, IfSome, IfNone};
 ghost use Rattle.std.specs.Option.{option_copied};
 ghost use Rattle.tk_model.specs.Records.{find, Rising};
 ghost use Rattle.tk_page.specs.Search.{child_for, child_behind, RestRises, ChildrenRise};
@@ -9,6 +9,37 @@ use crate::ChildHere;
 use std::cmp::Ordering;
 use tk_model::{Order, RecordHere};
 use tk_order::compare;
+
+/// The keys of records rise.
+pub fn records_rise(order: &Order, records: &[RecordHere<'_>]) -> bool
+    ensures { result ≡ true ↔ Rising order.now (records_seen records.now) }
+{
+    let mut rest = records;
+    while let [first, second, ..] = rest {
+        if !compare(order, first.key, second.key).is_lt() {
+            return false;
+        }
+        rest = &rest[1..];
+    }
+    true
+}
+
+/// The keys of the children behind the first rise.
+pub fn children_rise(order: &Order, children: &[ChildHere<'_>]) -> bool
+    ensures { result ≡ true ↔ RestRises order.now (children_seen children.now) }
+{
+    let Some((_, behind)) = children.split_first() else {
+        return true;
+    };
+    let mut rest = behind;
+    while let [first, second, ..] = rest {
+        if !compare(order, first.key, second.key).is_lt() {
+            return false;
+        }
+        rest = &rest[1..];
+    }
+    true
+}
 
 /// The item in the middle, with those before it and behind it.
 fn around_middle<T>(items: &[T]) -> Option<(&[T], &T, &[T])>

@@ -35,9 +35,8 @@ fn inner(alloc: Global, of: &[(u64, &[u8])]) -> Result<Page, NoMemory> {
 
 /// The last bytes of a number, the high one first, by the plain rule.
 fn put_number(out: &mut Bytes, number: u64, width: u32) -> Result<(), NoMemory> {
-    for i in 0..width {
-        let shift = 8 * (width - 1 - i);
-        out.push((number >> shift & 0xff) as u8)?;
+    for place in (0..width).rev() {
+        out.push((number.wrapping_shr(place.wrapping_mul(8)) & 0xff) as u8)?;
     }
     Ok(())
 }
@@ -83,23 +82,24 @@ fn count_here(page: &PageHere<'_>) -> usize {
     }
 }
 
-/// The page is written as this text, behind what is there, as the plain rule says, and is read back.
+/// The text is the page's by the plain rule; what is read of it is that page, and is written so again.
 fn is_text(rt: &HostRuntime, page: &Page, text: &[u8]) -> Result<bool, NoMemory> {
-    let mut out = bytes(rt.alloc(), b"before")?;
-    write_page(page, &mut out)?;
-    let plain = plain_text(rt.alloc(), page)?;
     let Some(copy) = read_page(rt.alloc(), text)? else {
         return Ok(false);
     };
     let Some(here) = page_here(rt.alloc(), text)? else {
         return Ok(false);
     };
-    let again = plain_text(rt.alloc(), &copy)?;
+    let mut out = bytes(rt.alloc(), b"before")?;
+    write_page(&copy, &mut out)?;
+    let plain = plain_text(rt.alloc(), page)?;
+    let plain_copy = plain_text(rt.alloc(), &copy)?;
     Ok(
         out.as_slice().starts_with(b"before")
-            && &out.as_slice()[6..] == text
+            && out.as_slice().ends_with(text)
+            && out.len() == b"before".len() + text.len()
             && plain.as_slice() == text
-            && again.as_slice() == text
+            && plain_copy.as_slice() == text
             && count_here(&here) == count_of(page),
     )
 }
@@ -181,69 +181,66 @@ fn texts_of_no_page(rt: HostRuntime) -> Result<(), Fail> {
 
 static NUMBERS: [&[u8]; 7] = [b"-7", b"0", b"1", b"+2", b"10", b"10x", b"200"];
 
+/// What is found of a key, where the keys rise.
+fn value_of<'a>(page: &[RecordHere<'a>], key: &[u8]) -> Option<&'a [u8]> {
+    if !records_rise(&Order::Decimal, page) {
+        return Some(b"no");
+    }
+    find_value(&Order::Decimal, page, key)
+}
+
 #[test]
 fn one_record_is_found(rt: HostRuntime) -> Result<(), Fail> {
     let mut page = ListOf::new(rt.alloc());
-    for count in 0..NUMBERS.len() {
+    for (count, new) in NUMBERS.iter().enumerate() {
         for (at, key) in NUMBERS.iter().enumerate() {
-            let found = find_value(&Order::Decimal, page.as_slice(), key);
-            if at < count {
-                assert_eq!(rt; found, Some(&key[1..]), "{at} of {count}");
-            } else {
-                assert_eq!(rt; found, None, "{at} of {count}");
-            }
+            let value = if at < count { Some(*key) } else { None };
+            assert_eq!(rt; value_of(page.as_slice(), key), value, "{at} of {count}");
         }
         page.push(RecordHere {
-            key: NUMBERS[count],
-            value: &NUMBERS[count][1..],
+            key: new,
+            value: new,
             rest: b"",
         })?;
     }
-    assert_eq!(rt; find_value(&Order::Decimal, page.as_slice(), b"01"), None);
+    assert_eq!(rt; value_of(page.as_slice(), b"01"), None);
+    assert!(rt; !records_rise(&Order::Bytes, page.as_slice()));
     Ok(())
 }
 
-/// The child for a key, by going through all.
-fn plain_child(order: &Order, children: &[ChildHere<'_>], key: &[u8]) -> Option<u64> {
-    let mut found = None;
-    for (at, child) in children.iter().enumerate() {
-        if at == 0 || compare_keys(order, child.key, key).is_le() {
-            found = Some(child.page);
+/// The child for a key, where the keys rise; by binary search, and by going through all.
+fn child_of(page: &[ChildHere<'_>], key: &[u8]) -> (Option<u64>, Option<u64>) {
+    if !children_rise(&Order::Decimal, page) {
+        return (None, Some(0));
+    }
+    let mut plain = None;
+    for (at, child) in page.iter().enumerate() {
+        if at == 0 || compare_keys(&Order::Decimal, child.key, key).is_le() {
+            plain = Some(child.page);
         }
     }
-    found
+    (find_child(&Order::Decimal, page, key), plain)
 }
+
+static KEYS: [&[u8]; 8] = [b"-8", b"-7", b"0", b"1", b"01", b"5", b"10y", b"3000"];
 
 #[test]
 fn one_child_is_found(rt: HostRuntime) -> Result<(), Fail> {
     let mut page = ListOf::new(rt.alloc());
-    for count in 0..NUMBERS.len() {
-        for key in [
-            b"-8".as_slice(),
-            b"-7",
-            b"0",
-            b"1",
-            b"01",
-            b"5",
-            b"10y",
-            b"3000",
-        ] {
-            let found = find_child(&Order::Decimal, page.as_slice(), key);
-            assert_eq!(rt; found, plain_child(&Order::Decimal, page.as_slice(), key));
+    for (at, new) in NUMBERS.iter().enumerate() {
+        for key in KEYS {
+            let (found, plain) = child_of(page.as_slice(), key);
+            assert_eq!(rt; found, plain, "behind {at}");
         }
         page.push(ChildHere {
-            page: 10 + count as u64,
-            key: if count == 0 { b"" } else { NUMBERS[count] },
+            page: at as u64,
+            key: if at == 0 { b"" } else { new },
             rest: b"",
         })?;
     }
-    assert_eq!(rt;
-        find_child(&Order::Decimal, page.as_slice(), b"9"),
-        Some(13)
-    );
-    assert_eq!(rt;
-        find_child(&Order::Decimal, page.as_slice(), b"-8"),
-        Some(10)
-    );
+    assert_eq!(rt; child_of(page.as_slice(), b"9").0, Some(3));
+    assert_eq!(rt; child_of(page.as_slice(), b"10").0, Some(4));
+    assert_eq!(rt; child_of(page.as_slice(), b"-8").0, Some(0));
+    assert!(rt; !children_rise(&Order::Bytes, page.as_slice()));
     Ok(())
 }

@@ -1,4 +1,4 @@
-use Rattle.std.proofs.Common.{◌≡◌, ◌∙◌, sym, ap, List, ℕ, arith}
+use Rattle.std.proofs.Common.{arith}
 use Rattle.tk_page.proofs.Viewing.{view_found, view_again}
 use Rattle.tk_page.proofs.view.page_here.Goals as goal
 
