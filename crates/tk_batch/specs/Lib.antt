@@ -1,0 +1,5 @@
+pub mod Numbers
+pub mod Arguments
+pub mod Script
+pub mod Output
+pub mod Written

@@ -1,0 +1,11 @@
+//! Scripts of calls, and their output: read exactly, written, and printed.
+#![tactic(auto)]
+
+mod line;
+mod script;
+
+pub use line::{Line, LineList, Out, OutList, ScriptRules};
+pub use script::read_script;
+
+#[cfg(test)]
+mod tests;
