@@ -1,0 +1,6 @@
+pub mod Numbers
+pub mod Arguments
+pub mod Script
+pub mod Woven
+pub mod Output
+pub mod Written

@@ -1,0 +1,5 @@
+pub mod Planned
+pub mod Iterators
+pub mod Calls
+pub mod Replies
+pub mod ReplyLaws
