@@ -1,0 +1,7 @@
+pub mod Blocks
+pub mod FairPast
+pub mod KeptKeys
+pub mod Laws
+pub mod Restored
+pub mod Spelled
+pub mod Untorn
