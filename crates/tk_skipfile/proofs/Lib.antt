@@ -1,0 +1,3 @@
+pub mod Powers
+pub mod LevelSteps
+pub mod TextSteps
