@@ -4,7 +4,6 @@
 ghost use Rattle.std.specs.Prelude.{◌≡◌, [], List, true, IfOk, IfSome};
 ghost use Rattle.tk_model.specs.declared.record.Pair.{Pair};
 ghost use Rattle.tk_hash.specs.Hash.{HashStands, hash_view, hash_constants};
-ghost use Rattle.tk_mem.specs.Tiny.{TinyStands, tiny_view, tiny_constants};
 ghost use Rattle.tk_dbm.specs.Dbm.{IsIdleOf};
 ghost use Rattle.tk_dbm_tests.specs.Fixture.{IsOpened};
 
@@ -16,18 +15,15 @@ use std::time::{Clock, Instant};
 use std::{env, io};
 use thiserror::Error;
 use tk_dbm::{Dbm, Pass};
-use tk_dbm_tests::fixture::{alone, get, set};
+use tk_dbm_tests::fixture::{LIMIT, alone, get, set, tiny};
 use tk_disk::{DirFolder, Disk, FileDisk, Folder};
 use tk_hash::HashStore;
-use tk_mem::TinyRecords;
 use tk_model::{NoMemory, OpenError, ShardOf};
 use tk_status::Status;
-use tk_store::{HashedRecords, SeqStore};
+use tk_store::SeqStore;
 
 /// How many records there are.
 const KEYS: u32 = 100_000;
-
-const LIMIT: u64 = 1 << 40;
 
 /// Why nothing was measured.
 #[derive(Debug, Drop, Error)]
@@ -208,16 +204,6 @@ fn rate<S: SeqStore + Send + Sync + Drop, R: Threads + Wait + Clock + Sync>(
     }
 }
 
-/// A store in memory without records.
-fn tiny(alloc: Global) -> Result<TinyRecords, NoMemory>
-    ensures opened { IfOk result (IsOpened TinyStands tiny_view) }
-    ensures floor { IfOk result (λ s. (tiny_view s).floor ≡ 0) }
-    ensures writable { IfOk result (λ s. (tiny_constants s).writable ≡ true) }
-{
-    let records = HashedRecords::new(alloc, 0)?;
-    Ok(TinyRecords::of(alloc, records, 8, true, LIMIT))
-}
-
 /// A store over this empty disk.
 fn store_on<D: Disk + Drop>(alloc: Global, disk: D) -> Result<HashStore<D>, BenchError>
     requires { IfSome (D.image disk) (λ f. f ≡ []) }
@@ -275,7 +261,7 @@ fn measured<R: Threads + Wait + Clock + Sync>(
         calls,
     };
     match engine.as_str() {
-        "tiny" => rate(threads_of, rt.alloc(), tiny(rt.alloc())?, threads, work),
+        "tiny" => rate(threads_of, rt.alloc(), tiny(rt.alloc(), LIMIT)?, threads, work),
         "hash" => rate(
             threads_of,
             rt.alloc(),

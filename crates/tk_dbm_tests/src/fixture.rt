@@ -1,6 +1,7 @@
 //! A database of one store.
 ghost use Rattle.std.specs.Prelude.{◌≡◌, ◌≤◌, ◌^◌, ◌∷◌, [], List, true, length, IfOk};
 ghost use Rattle.tk_model.specs.declared.record.Pair.{Pair};
+ghost use Rattle.tk_mem.specs.Tiny.{TinyStands, tiny_view, tiny_constants};
 ghost use Rattle.tk_dbm.specs.Dbm.{IsIdleOf};
 ghost use Rattle.tk_dbm_tests.specs.Fixture.{IsOpened};
 
@@ -8,13 +9,27 @@ use std::alloc::Global;
 use std::sync::Wait;
 use tk_dbm::{Answer, Dbm, Pass, StoreList};
 use tk_hashnum::{mix, stripe};
+use tk_mem::TinyRecords;
 use tk_model::{Bytes, NoMemory};
 use tk_proc::{Getter, RecordProcessor, Setter};
 use tk_status::Status;
-use tk_store::SeqStore;
+use tk_store::{HashedRecords, SeqStore};
 
 /// Few stripes, so that tests find keys for each.
 const STRIPES: u32 = 16;
+
+/// The highest limit of a store.
+pub const LIMIT: u64 = 1 << 40;
+
+/// A store in memory without records.
+pub fn tiny(alloc: Global, limit: u64) -> Result<TinyRecords, NoMemory>
+    ensures opened { IfOk result (IsOpened TinyStands tiny_view) }
+    ensures floor { IfOk result (λ s. (tiny_view s).floor ≡ 0) }
+    ensures writable { IfOk result (λ s. (tiny_constants s).writable ≡ true) }
+{
+    let records = HashedRecords::new(alloc, 0)?;
+    Ok(TinyRecords::of(alloc, records, 8, true, limit))
+}
 
 fn one<S: SeqStore + Drop>(alloc: Global, store: S) -> Result<StoreList<S>, NoMemory>
     ensures { IfOk result (λ xs. xs ≡ store ∷ []) }

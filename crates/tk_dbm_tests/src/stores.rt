@@ -1,33 +1,19 @@
 //! Stores for tests.
 ghost use Rattle.std.specs.Prelude.{◌≡◌, ◌≤◌, ◌^◌, true, IfOk};
-ghost use Rattle.tk_mem.specs.Tiny.{TinyStands, tiny_view, tiny_constants};
 ghost use Rattle.tk_disk.specs.MemDisk.{mem_image, mem_past, MemMayLeave};
 ghost use Rattle.tk_hash.specs.Hash.{HashStands, hash_view, hash_constants};
 ghost use Rattle.tk_dbm_tests.specs.Fixture.{IsOpened};
 
+pub use crate::fixture::{LIMIT, tiny};
 use std::alloc::Global;
 use tk_disk::MemDisk;
 use tk_hash::HashStore;
-use tk_mem::TinyRecords;
-use tk_model::{Bytes, FaultList, NoMemory, OpenError, ShardOf};
-use tk_store::HashedRecords;
-
-pub const LIMIT: u64 = 1 << 30;
+use tk_model::{Bytes, FaultList, OpenError, ShardOf};
 
 /// How many calls of the disk make a new file.
 pub const MAKING: u64 = 8;
 
 const ALONE: ShardOf = ShardOf { index: 0, of: 1 };
-
-/// A store in memory without records.
-pub fn tiny(alloc: Global, limit: u64) -> Result<TinyRecords, NoMemory>
-    ensures opened { IfOk result (IsOpened TinyStands tiny_view) }
-    ensures floor { IfOk result (λ s. (tiny_view s).floor ≡ 0) }
-    ensures writable { IfOk result (λ s. (tiny_constants s).writable ≡ true) }
-{
-    let records = HashedRecords::new(alloc, 0)?;
-    Ok(TinyRecords::of(alloc, records, 8, true, limit))
-}
 
 /// A store over a new file, whose disk fails at these calls.
 pub fn file(alloc: Global, limit: u64, faults: &[u64]) -> Result<HashStore<MemDisk>, OpenError>

@@ -1,9 +1,8 @@
 //! The gate that a call passes.
 use crate::row::{Call, Row, rows_met};
-use crate::tiny::{LIMIT, tiny};
 use std::sync::atomic::{AtomicU64, Ordering};
 use std::test::*;
-use tk_dbm_tests::fixture::alone;
+use tk_dbm_tests::fixture::{LIMIT, alone, tiny};
 use tk_proc::{At, Gate};
 use tk_status::Status;
 

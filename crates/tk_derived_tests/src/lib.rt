@@ -7,5 +7,3 @@ mod gate_tests;
 mod row;
 #[cfg(test)]
 mod row_tests;
-#[cfg(test)]
-mod tiny;

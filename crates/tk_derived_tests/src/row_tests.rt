@@ -2,11 +2,10 @@
 
 use crate::row::Call::{Append, Exchange, Get, Increment, Remove, Set};
 use crate::row::{Call, Row, rows_met, rows_refused};
-use crate::tiny::{LIMIT, tiny};
 use std::alloc::Global;
 use std::sync::Wait;
 use std::test::*;
-use tk_dbm_tests::fixture::alone;
+use tk_dbm_tests::fixture::{LIMIT, alone, tiny};
 use tk_model::{Bytes, NoMemory};
 use tk_proc::{At, Desired, Expected, OpenGate};
 use tk_status::Status;
