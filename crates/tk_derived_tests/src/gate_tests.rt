@@ -39,7 +39,7 @@ fn a_call_passes_its_gate_once(rt: HostRuntime) -> Result<(), Fail> {
         },
     ];
     let (db, mut pass) = alone(alloc, tiny(alloc, LIMIT)?, 0, true)?;
-    assert_eq!(rt; rows_met(&rt, alloc, &db, &mut pass, &rows, &at)?, 2);
+    assert_eq!(rt; rows_met(&rt, alloc, &db, &mut pass, &rows, true, &at)?, 2);
     assert_eq!(rt; sum.load(Ordering::SeqCst), 6014);
     assert!(rt; db.close(pass).status == Status::Success);
     Ok(())

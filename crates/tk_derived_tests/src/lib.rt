@@ -3,7 +3,6 @@
 
 #[cfg(test)]
 mod gate_tests;
-#[cfg(test)]
-mod row;
+pub mod row;
 #[cfg(test)]
 mod row_tests;

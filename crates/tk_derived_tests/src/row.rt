@@ -1,4 +1,6 @@
-ghost use Rattle.std.specs.Prelude.{◌≡◌, ◌≤◌, List, true, length};
+//! Calls as rows, made and compared.
+ghost use Rattle.std.specs.Prelude.{◌≡◌, ◌≤◌, ◌↔◌, ◌∷◌, [], List, true, length, IfOk, IsTrue};
+ghost use Rattle.std.specs.Option.{option_copied};
 ghost use Rattle.tk_model.specs.declared.record.Pair.{Pair};
 ghost use Rattle.tk_dbm.specs.Dbm.{IsIdleOf};
 
@@ -52,11 +54,23 @@ fn gets<S: SeqStore, R: Wait, G: Gate>(
     Ok((answer, out.as_slice() == told.unwrap_or(BEFORE)))
 }
 
+/// Whether the value is these bytes, or neither is there.
+fn is_value(value: &Option<Bytes>, item: Option<&[u8]>) -> bool
+    ensures { IsTrue result ↔ (value.now ≡ option_copied item.entry) }
+{
+    match (value, item) {
+        (Some(value), Some(bytes)) => value.as_slice() == bytes,
+        (None, None) => true,
+        _ => false,
+    }
+}
+
 /// Whether the list has this one item.
-fn lists(list: &ValueList, item: Option<&[u8]>) -> bool {
-    match (list.as_slice(), item) {
-        ([Some(value)], Some(bytes)) => value.as_slice() == bytes,
-        ([None], None) => true,
+pub fn lists(list: &ValueList, item: Option<&[u8]>) -> bool
+    ensures { IsTrue result ↔ (list.now ≡ option_copied item.entry ∷ []) }
+{
+    match list.as_slice() {
+        [value] => is_value(value, item),
         _ => false,
     }
 }
@@ -135,44 +149,26 @@ fn calls<S: SeqStore, R: Wait, G: Gate>(
     }
 }
 
-/// Makes the calls, which get the numbers from 0 on, and says how many in front answered and told as their rows say.
+/// Makes the calls, and says how many in front answered and told as their rows say. Those that are made get the numbers
+/// from 0 on, those that are refused get none.
 pub fn rows_met<S: SeqStore, R: Wait, G: Gate>(
     rt: &R,
     alloc: Global,
     db: &Dbm<S>,
     pass: &mut Pass,
     rows: &[Row],
+    made: bool,
     at: &At<G>,
 ) -> Result<usize, NoMemory>
     requires own { IsIdleOf S.lawful S.stands S.store_view S.constants db.now pass.old }
     requires law { (m : List Pair) → S.lawful m ≡ true }
-    ensures { IsIdleOf S.lawful S.stands S.store_view S.constants db.now pass.new }
+    ensures own { IsIdleOf S.lawful S.stands S.store_view S.constants db.now pass.new }
+    ensures within { IfOk result (λ n. n ≤ length rows.now) }
 {
     for (i, row) in rows.iter().enumerate() {
         let (answer, told) = calls(rt, alloc, db, pass, &row.call, at)?;
-        if !told || answer.status != row.status || answer.number != Some(i as u64) {
-            return Ok(i);
-        }
-    }
-    Ok(rows.len())
-}
-
-/// Makes the calls, and says how many in front were refused so, without a number, and told nothing.
-pub fn rows_refused<S: SeqStore, R: Wait, G: Gate>(
-    rt: &R,
-    alloc: Global,
-    db: &Dbm<S>,
-    pass: &mut Pass,
-    rows: &[Row],
-    at: &At<G>,
-) -> Result<usize, NoMemory>
-    requires own { IsIdleOf S.lawful S.stands S.store_view S.constants db.now pass.old }
-    requires law { (m : List Pair) → S.lawful m ≡ true }
-    ensures { IsIdleOf S.lawful S.stands S.store_view S.constants db.now pass.new }
-{
-    for (i, row) in rows.iter().enumerate() {
-        let (answer, told) = calls(rt, alloc, db, pass, &row.call, at)?;
-        if !told || answer.status != row.status || answer.number.is_some() {
+        let number = made.then_some(i as u64);
+        if !told || answer.status != row.status || answer.number != number {
             return Ok(i);
         }
     }

@@ -1,7 +1,7 @@
 //! The rows of the reply table, and refusals.
 
 use crate::row::Call::{Append, Exchange, Get, Increment, Remove, Set};
-use crate::row::{Call, Row, rows_met, rows_refused};
+use crate::row::{Call, Row, rows_met};
 use std::alloc::Global;
 use std::sync::Wait;
 use std::test::*;
@@ -29,11 +29,7 @@ fn met<R: Wait>(
         worker: 0,
         line: 0,
     };
-    let count = if writable {
-        rows_met(rt, alloc, &db, &mut pass, rows, &open)
-    } else {
-        rows_refused(rt, alloc, &db, &mut pass, rows, &open)
-    };
+    let count = rows_met(rt, alloc, &db, &mut pass, rows, writable, &open);
     let closed = db.close(pass);
     let _ = closed;
     count
