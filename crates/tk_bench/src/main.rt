@@ -261,7 +261,13 @@ fn measured<R: Threads + Wait + Clock + Sync>(
         calls,
     };
     match engine.as_str() {
-        "tiny" => rate(threads_of, rt.alloc(), tiny(rt.alloc(), LIMIT)?, threads, work),
+        "tiny" => rate(
+            threads_of,
+            rt.alloc(),
+            tiny(rt.alloc(), LIMIT)?,
+            threads,
+            work,
+        ),
         "hash" => rate(
             threads_of,
             rt.alloc(),
