@@ -1,0 +1,17 @@
+pub mod Keys
+pub mod Lookups
+pub mod Parts
+pub mod LeafSplits
+pub mod InnerSplits
+pub mod Puts
+pub mod Drops
+pub mod Searches
+pub mod ReadsBack
+pub mod PutPages
+pub mod DropPages
+pub mod Lying
+pub mod PutNumbers
+pub mod DropNumbers
+pub mod Updates
+pub mod Stored
+pub mod Given

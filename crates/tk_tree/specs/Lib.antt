@@ -1,0 +1,10 @@
+pub mod Tree
+pub mod Formed
+pub mod Lookup
+pub mod Search
+pub mod Put
+pub mod Drop
+pub mod Pages
+pub mod Reading
+pub mod Writes
+pub mod Laws
