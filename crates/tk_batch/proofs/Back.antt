@@ -1,5 +1,5 @@
 -- Lines that were written are read back.
-use Rattle.std.proofs.Common.{◌≡◌, ℕ, zero, suc, ◌<◌, ◌≤◌, ◌+◌, ◌-◌, ◌*◌, ◌^◌, Bool, true, false, nat_lt, nat_le, ◌&&◌, not, List, [], ◌∷◌, ◌++◌, length, length-append, take, drop, Option, Some, None, refl, sym, ap, ◌∙◌, arith}
+use Rattle.std.proofs.Common.{◌≡◌, ℕ, zero, suc, ◌<◌, ◌≤◌, ◌+◌, ◌-◌, ◌*◌, ◌^◌, Bool, true, false, nat_lt, nat_le, ◌&&◌, not, List, [], ◌∷◌, ◌++◌, length, length-append, take, drop, Option, Some, None, refl, sym, ap, ◌∙◌, subst, append_assoc, arith}
 use Rattle.std.specs.Prelude.{decimal, codes, if◌then◌else◌, ◌==◌}
 use Rattle.std.specs.Fmt.{signed_decimal}
 use Rattle.std.proofs.lemmas.List.Splits.{slice_split_at, slice_split_none}
@@ -27,8 +27,9 @@ use Rattle.tk_batch.specs.declared.line.ScriptRules.{ScriptRules}
 use Rattle.tk_batch.specs.Numbers.{number_in, at_most, signed_in}
 use Rattle.tk_batch.specs.Arguments.{is_key, is_value, all_keys, expected_in, desired_in, with_form, expected_pair, desired_pair, expected_pairs, desired_pairs, exchange_by, exchange_multi_by, exchange_multi_of, increment_by, op_in, with_step, multi_steps, multi_by, rekey_by}
 use Rattle.tk_batch.specs.Script.{followed, all_unescaped, call_in, taken, line_by, line_from, line_of, line_in}
-use Rattle.tk_batch.specs.Written.{joined, expected_word, desired_word, op_word, op_value, expected_fields, desired_fields, step_fields, name_of, args_of, words_of, line_body, expected_fits, desired_fits, all_expected_fit, all_desired_fit, all_steps_fit, is_within, Takes, AllBack, LinesAreReadBack}
+use Rattle.tk_batch.specs.Written.{joined, expected_word, desired_word, op_word, op_value, expected_fields, desired_fields, step_fields, name_of, args_of, words_of, line_body, expected_fits, desired_fits, all_expected_fit, all_desired_fit, all_steps_fit, is_within, Takes, tabbed, IsBack, AllBack, IsReadBack, LinesAreReadBack}
 use Rattle.tk_batch.proofs.Numerals.{small_read, signed_read}
+use Rattle.tk_batch.proofs.Tabs.{joined_tabbed}
 
 fields_joined : (f : List ℕ) (fs : List (List ℕ)) → AllBack (f ∷ fs) → all_unescaped (fields_of (joined f fs)) ≡ Some (f ∷ fs)
 fields_joined f [] h = ap all_unescaped (slice_split_none is_tab (escaped f) (no_tab f)) ∙ ap (λ (t : Option (List ℕ)). followed t (Some [])) h.0
@@ -174,3 +175,17 @@ read_back r l takes back =
     ∙ (ap (λ (w : Option ℕ). line_by w (taken r.iterators (call_in (name_of l.call) (args_of l.call)))) (small_read (r.workers - 1) l.worker (omega (arith, takes.worker)) (omega (arith, takes.worker, takes.workers)))
     ∙ (ap (λ (c : Option Call). line_by (Some l.worker) (taken r.iterators c)) (call_read l.call takes.within)
     ∙ ap (λ (b : Bool). line_by (Some l.worker) (if b then None else Some l.call)) takes.iterators))
+
+-- a line that was put together
+pub written : (l : Line) (old a b c : List ℕ) → a ≡ old ++ escaped (decimal l.worker) → b ≡ a ++ tabbed (name_of l.call ∷ args_of l.call) → c ≡ b ++ 10 ∷ [] → c ≡ old ++ (line_body l ++ 10 ∷ [])
+unfolding line_body
+written l old a b c first more last =
+    let words : List ℕ = tabbed (name_of l.call ∷ args_of l.call) in
+    last
+    ∙ ap (λ (t : List ℕ). t ++ 10 ∷ []) (more ∙ ap (λ (t : List ℕ). t ++ words) first)
+    ∙ ap (λ (t : List ℕ). t ++ 10 ∷ []) (append_assoc old (escaped (decimal l.worker)) words)
+    ∙ append_assoc old (escaped (decimal l.worker) ++ words) (10 ∷ [])
+    ∙ ap (λ (t : List ℕ). old ++ (t ++ 10 ∷ [])) (sym (joined_tabbed (decimal l.worker) (name_of l.call ∷ args_of l.call)))
+
+pub is_read_back : (l : Line) (digits : List ℕ) → digits ≡ decimal l.worker → IsBack digits → AllBack (name_of l.call ∷ args_of l.call) → IsReadBack l
+is_read_back l digits is worker call = λ r takes. read_back r l takes (subst IsBack is worker, call)

@@ -9,7 +9,7 @@ mod script;
 pub use law::lines_are_read_back;
 pub use line::{Line, LineList, Out, OutList, ScriptRules};
 pub use output::{print_outs, write_out};
-pub use script::read_script;
+pub use script::{read_script, write_script_line};
 
 #[cfg(test)]
 mod tests;
