@@ -62,9 +62,9 @@ step script answers old out i next later l o p parts first rest many = record {
   many = many;
   workers = (subst (HaveWorkers (length answers)) parts p.workers).1;
   text = p.text ∙ (ap (λ (t : List Line). out ++ outs_text (suc i) t (woven_outs t (left answers next))) parts
-    ∙ (ap (λ (t : Out). out ++ (out_text l.worker (suc i) t ++ outs_text (suc (suc i)) (drop (suc i) script) (woven_outs (drop (suc i) script) (set (left answers next) l.worker (rest_of (get_or (left answers next) l.worker [])))))) first
-    ∙ (ap (λ (t : List (List Out)). out ++ (out_text l.worker (suc i) o ++ outs_text (suc (suc i)) (drop (suc i) script) (woven_outs (drop (suc i) script) t))) rest
-    ∙ sym (append_assoc out (out_text l.worker (suc i) o) (outs_text (suc (suc i)) (drop (suc i) script) (woven_outs (drop (suc i) script) (left answers later)))))));
+      ∙ (ap (λ (t : Out). out ++ (out_text l.worker (suc i) t ++ outs_text (suc (suc i)) (drop (suc i) script) (woven_outs (drop (suc i) script) (set (left answers next) l.worker (rest_of (get_or (left answers next) l.worker [])))))) first
+      ∙ (ap (λ (t : List (List Out)). out ++ (out_text l.worker (suc i) o ++ outs_text (suc (suc i)) (drop (suc i) script) (woven_outs (drop (suc i) script) t))) rest
+      ∙ sym (append_assoc out (out_text l.worker (suc i) o) (outs_text (suc (suc i)) (drop (suc i) script) (woven_outs (drop (suc i) script) (left answers later)))))));
 }
 
 rest_here : (xs : List Out) (k : ℕ) (d : Out) → k < length xs → (first_out (drop k xs) ≡ get_or xs k d) × (rest_of (drop k xs) ≡ drop (suc k) xs)
@@ -95,11 +95,11 @@ printed_more script answers old out end i k next later l o p low at place here i
     let one : i + 1 ≡ suc i = omega arith in
     let next_one : k + 1 ≡ suc k = omega arith in
     let moved : set (left answers next) l.worker (rest_of (get_or (left answers next) l.worker [])) ≡ left answers later =
-        ap (λ (t : List Out). set (left answers next) l.worker (rest_of t)) mine ∙ (ap (set (left answers next) l.worker) r.1
-        ∙ (left_set answers next l.worker (suc k) p.many ∙ ap (left answers) (ap (set next l.worker) (sym next_one) ∙ sym after))) in
+    ap (λ (t : List Out). set (left answers next) l.worker (rest_of t)) mine ∙ (ap (set (left answers next) l.worker) r.1
+    ∙ (left_set answers next l.worker (suc k) p.many ∙ ap (left answers) (ap (set next l.worker) (sym next_one) ∙ sym after))) in
     subst (λ (j : ℕ). Printed script answers old end j later) (sym one)
     (subst (λ (t : List ℕ). Printed script answers old t (suc i) later) (ap (λ (j : ℕ). out ++ out_text l.worker j o) (sym one) ∙ sym e)
-      (step script answers old out i next later l o p parts (ap first_out mine ∙ (r.0 ∙ sym is)) moved (ap (λ (t : List ℕ). length t) after ∙ (length-set next l.worker (k + 1) ∙ p.many))))
+    (step script answers old out i next later l o p parts (ap first_out mine ∙ (r.0 ∙ sym is)) moved (ap (λ (t : List ℕ). length t) after ∙ (length-set next l.worker (k + 1) ∙ p.many))))
 
 -- the worker has none
 pub printed_want : (script : List Line) (answers : List (List Out)) (old out end : List ℕ) (i k : ℕ) (next : List ℕ) (l : Line) → Printed script answers old out i next
@@ -111,12 +111,12 @@ printed_want script answers old out end i k next l p low at place gone e =
     let none : get_or (left answers next) l.worker [] ≡ [] = mine ∙ rest_past (get_or answers l.worker []) k gone in
     let one : i + 1 ≡ suc i = omega arith in
     let moved : set (left answers next) l.worker (rest_of (get_or (left answers next) l.worker [])) ≡ left answers next =
-        ap (λ (t : List Out). set (left answers next) l.worker (rest_of t)) none
-        ∙ (ap (set (left answers next) l.worker) (sym (rest_past (get_or answers l.worker []) k gone))
-        ∙ (left_set answers next l.worker k p.many ∙ ap (left answers) (ap (set next l.worker) place ∙ same_set next l.worker))) in
+    ap (λ (t : List Out). set (left answers next) l.worker (rest_of t)) none
+    ∙ (ap (set (left answers next) l.worker) (sym (rest_past (get_or answers l.worker []) k gone))
+    ∙ (left_set answers next l.worker k p.many ∙ ap (left answers) (ap (set next l.worker) place ∙ same_set next l.worker))) in
     subst (λ (j : ℕ). Printed script answers old end j next) (sym one)
     (subst (λ (t : List ℕ). Printed script answers old t (suc i) next) (ap (λ (j : ℕ). out ++ out_text l.worker j (refused statuses.NoMemory)) (sym one) ∙ sym e)
-      (step script answers old out i next next l (refused statuses.NoMemory) p parts (ap first_out none) moved p.many))
+    (step script answers old out i next next l (refused statuses.NoMemory) p parts (ap first_out none) moved p.many))
 
 pub same_read : {A : Type 0} (xs : List A) (i : ℕ) (x d : A) → i < length xs → x ≡ get_or xs i x → get_or xs i d ≡ x
 same_read [] i x d h e = absurd (omega arith)

@@ -1,6 +1,7 @@
 -- Lines as they are written: a script is made of these.
 use Rattle.std.specs.Prelude.{◌≡◌, ℕ, ◌+◌, ◌<◌, ◌≤◌, ◌&&◌, nat_lt, nat_le, Bool, true, false, if◌then◌else◌, not, List, [], ◌∷◌, ◌++◌, length, Option, Some, None, decimal, codes}
 use Rattle.std.specs.Fmt.{signed_decimal}
+use Rattle.std.specs.List.{flat_map}
 use Rattle.tk_flat.specs.Escapes.{escaped, unescaped}
 use Rattle.tk_proc.specs.Increments.{is_in_64_bits}
 use Rattle.tk_proc.specs.declared.exchange.Expected.{Expected}
@@ -24,6 +25,10 @@ use Rattle.tk_batch.specs.Script.{line_in}
 abbrev pub joined : List ℕ → List (List ℕ) → List ℕ
 joined f [] = escaped f
 joined f (g ∷ gs) = escaped f ++ (9 ∷ joined g gs)
+
+-- a TAB before each field
+abbrev pub tabbed : List (List ℕ) → List ℕ
+tabbed fields = flat_map (λ f. 9 ∷ escaped f) fields
 
 abbrev pub expected_word : Expected → List ℕ
 expected_word expectations.Absent = codes "absent"
@@ -181,11 +186,18 @@ pub record Takes (r : ScriptRules) (l : Line) : Type 0 where
   pub within : is_within l.call ≡ true
   pub iterators : (is_of_iterator l.call && not r.iterators) ≡ false
 
--- each field is read as it was written
+-- a field is read as it was written
+abbrev pub IsBack : List ℕ → Type 0
+IsBack f = unescaped (escaped f) ≡ Some f
+
 abbrev pub AllBack : List (List ℕ) → Type 0
 AllBack [] = Unit {0}
-AllBack (f ∷ fs) = (unescaped (escaped f) ≡ Some f) × AllBack fs
+AllBack (f ∷ fs) = IsBack f × AllBack fs
 
--- a line that the rules take is read as it was written
+-- a line is read as it was written, wherever the rules take it
+abbrev pub IsReadBack : Line → Type 0
+IsReadBack l = (r : ScriptRules) → Takes r l → line_in r (line_body l) ≡ Some l
+
+-- a line whose fields are read as they were written is read so too
 abbrev pub LinesAreReadBack : Type 0
 LinesAreReadBack = (r : ScriptRules) (l : Line) → Takes r l → AllBack (words_of l) → line_in r (line_body l) ≡ Some l

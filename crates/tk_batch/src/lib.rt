@@ -1,13 +1,15 @@
 //! Scripts of calls, and their output: read exactly, written, and printed.
 #![tactic(auto)]
 
+mod law;
 mod line;
 mod output;
 mod script;
 
+pub use law::lines_are_read_back;
 pub use line::{Line, LineList, Out, OutList, ScriptRules};
 pub use output::{print_outs, write_out};
-pub use script::read_script;
+pub use script::{read_script, write_script_line};
 
 #[cfg(test)]
 mod tests;

@@ -43,7 +43,7 @@ lacks : (n : ℕ) → n < 32 → (xs : List ℕ) → AllByRecursion IsPrinted xs
 lacks n low [] all = tt
 lacks n low (x ∷ xs) all = (ne_eqb x n (λ e. absurd (omega (arith, all.0))), lacks n low xs all.1)
 
-no_tab : (bytes : List ℕ) → All (λ b. is_tab b ≡ false) (escaped bytes)
+pub no_tab : (bytes : List ℕ) → All (λ b. is_tab b ≡ false) (escaped bytes)
 no_tab bytes = All-from_recursion (λ (b : ℕ). is_tab b ≡ false) (escaped bytes) (lacks 9 (omega arith) (escaped bytes) (printed bytes))
 
 join : (P : ℕ → Type 0) (xs ys : List ℕ) → AllByRecursion P xs → AllByRecursion P ys → AllByRecursion P (xs ++ ys)

@@ -186,5 +186,9 @@ fn one_record_and_one_line(rt: HostRuntime) -> Result<(), Fail> {
     let (line, behind) = next_line(b"ab\ncd");
     assert_eq!(rt; line, &b"ab"[..]);
     assert_eq!(rt; behind, &b"cd"[..]);
+    let (front, behind) = cut(b'-', b"a-b-").ok_or("none")?;
+    assert_eq!(rt; front, &b"a"[..]);
+    assert_eq!(rt; behind, &b"b-"[..]);
+    assert!(rt; cut(b'-', b"ab").is_none());
     Ok(())
 }

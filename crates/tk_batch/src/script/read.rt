@@ -1,5 +1,5 @@
 //! The lines of a script.
-ghost use Rattle.std.specs.Prelude.{◌≡◌, ◌≤◌, ◌<◌, ◌++◌, ◌∷◌, ℕ, List, IfOk, IfErr, IfSome, IfNone, All, false, Some, map, ◌==◌, count_by, take, length, option_map};
+ghost use Rattle.std.specs.Prelude.{◌≡◌, ◌≤◌, IfOk, IfErr, Some, map, count_by, option_map};
 ghost use Rattle.tk_batch.specs.Script.{all_unescaped, call_in, call_of_several_in, taken, line_of, line_in, lines_within, read_up_to, IsScript, IsFirstNone, IsFirstBadLine};
 ghost use Rattle.tk_flat.specs.Tsv.{fields_of, lines_of, is_lf};
 ghost use Rattle.tk_flat.specs.Errors.{Names};
@@ -12,10 +12,9 @@ use crate::script::iterate::read_iterator_call;
 use crate::script::number::read_number;
 use crate::script::several::{read_exchange_multi, read_get_multi, read_multi};
 use crate::{Line, LineList, ScriptRules};
-use memchr::memchr;
 use std::alloc::Global;
 use tk_calls::Call;
-use tk_flat::{TextError, next_line, unescape};
+use tk_flat::{TextError, cut, next_line, unescape};
 use tk_model::{Bytes, NoMemory};
 
 fn read_call_of_several(
@@ -101,16 +100,6 @@ fn line_of(alloc: Global, rules: &ScriptRules, fields: &[Bytes]) -> Result<Optio
     }))
 }
 
-/// The bytes before the first TAB, and those behind it.
-fn cut_tab(bytes: &[u8]) -> Option<(&[u8], &[u8])>
-    ensures found { IfSome result (λ r. bytes.now ≡ r.0.now ++ 9 ∷ r.1.now) }
-    ensures first { IfSome result (λ r. All (λ b. (b == 9) ≡ false) r.0.now) }
-    ensures none { IfNone result (All (λ b. (b == 9) ≡ false) bytes.now) }
-{
-    let at = memchr(b'\t', bytes)?;
-    Some((&bytes[..at], &bytes[at + 1..]))
-}
-
 /// The fields of a line; none where one of them can't be read.
 fn read_fields(alloc: Global, line: &[u8]) -> Result<Option<Vec<Bytes>>, NoMemory>
     ensures { IfOk result (λ fs. option_map (λ v. v.items) fs ≡ all_unescaped
@@ -118,7 +107,7 @@ fn read_fields(alloc: Global, line: &[u8]) -> Result<Option<Vec<Bytes>>, NoMemor
 {
     let mut fields = Vec::new(alloc);
     let mut rest = line;
-    while let Some((field, behind)) = cut_tab(rest) {
+    while let Some((field, behind)) = cut(b'\t', rest) {
         let Some(bytes) = unescape(alloc, field)? else {
             return Ok(None);
         };

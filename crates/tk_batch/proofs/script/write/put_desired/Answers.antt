@@ -1,0 +1,14 @@
+use Rattle.std.proofs.Common.{refl}
+use Rattle.tk_batch.specs.Written.{desired_fields}
+use Rattle.tk_batch.proofs.Tabs.{tabs_more, tabs_text, tabs_back, with_desired}
+use Rattle.tk_batch.proofs.script.write.put_desired.Goals as goal
+
+pub loop-pair-preserved : goal.loop-pair-preserved
+loop-pair-preserved c =
+    tabs_more desired_fields with_desired c.args.out.now c.loop-pair.out c.put_desired_pair.new.out c.args.desired.now c.loop-pair.pair-index c.pair-item.result c.loop-pair.invariant c.loop-pair-test.true c.pair-item.is c.in_ok-put_desired_pair.ensures.ok c.in_ok-put_desired_pair.ensures.back
+
+pub returns-clause-ok : goal.returns-clause-ok
+returns-clause-ok c = tabs_text desired_fields c.args.out.now c.loop-pair.out c.args.desired.now c.loop-pair.pair-index c.loop-pair.invariant refl c.loop-pair-test.false
+
+pub returns-clause-back : goal.returns-clause-back
+returns-clause-back c = tabs_back desired_fields c.args.out.now c.loop-pair.out c.args.desired.now c.loop-pair.pair-index c.loop-pair.invariant refl c.loop-pair-test.false
