@@ -2,6 +2,7 @@ pub mod BlockSteps
 pub mod FairSteps
 pub mod KeptKeys
 pub mod LeftPasts
+pub mod PlainSteps
 pub mod RestoredSteps
 pub mod SpelledSteps
 pub mod Tests
