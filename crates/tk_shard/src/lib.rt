@@ -4,3 +4,6 @@
 mod any_store;
 
 pub use any_store::AnyStore;
+
+#[cfg(test)]
+mod tests;
