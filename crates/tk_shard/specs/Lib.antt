@@ -1,0 +1,2 @@
+pub mod AnyStore
+pub mod AnyLaws
