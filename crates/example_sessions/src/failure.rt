@@ -1,3 +1,6 @@
+ghost use Rattle.std.specs.Prelude.{◌≡◌, true, false, IfOk};
+ghost use Rattle.tk_status.specs.declared.Status.TheVariants.{Success};
+
 use std::alloc::AllocError;
 use std::io;
 use thiserror::Error;
@@ -21,7 +24,10 @@ pub enum Failure {
 }
 
 /// Whether a call did what it was asked for, or said the no that its caller counts on. Any other answer is a failure.
-pub fn is_done(answer: Answer, no: Status) -> Result<bool, Failure> {
+pub fn is_done(answer: Answer, no: Status) -> Result<bool, Failure>
+    ensures yes { IfOk result (λ done. done ≡ true → answer.status ≡ Success) }
+    ensures no { IfOk result (λ done. done ≡ false → answer.status ≡ no) }
+{
     match answer.status {
         Status::Success => Ok(true),
         status if status == no => Ok(false),

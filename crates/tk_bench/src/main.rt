@@ -1,7 +1,7 @@
 //! Calls per second of a database: `tk_bench tiny|hash get|set THREADS CALLS`, in an empty directory.
 #![tactic(auto)]
 
-ghost use Rattle.std.specs.Prelude.{◌≡◌, [], List, true, IfOk, IfSome};
+ghost use Rattle.std.specs.Prelude.{◌≡◌, [], List, true, All, IfOk, IfSome};
 ghost use Rattle.tk_model.specs.declared.record.Pair.{Pair};
 ghost use Rattle.tk_hash.specs.Hash.{HashStands, hash_view, hash_constants};
 ghost use Rattle.tk_dbm.specs.Dbm.{IsIdleOf};
@@ -42,6 +42,9 @@ enum BenchError {
     Call,
 }
 
+/// What each seed is multiplied by, so that threads don't follow each other from key to key.
+const SPREAD: u64 = 0x9e37_79b9_7f4a_7c15;
+
 /// What each thread does.
 #[derive(Clone, Copy)]
 struct Work {
@@ -67,18 +70,43 @@ fn next(seed: u64) -> u64 {
         .wrapping_add(1_442_695_040_888_963_407)
 }
 
-/// Whether all calls of one thread succeeded.
-fn turns<S: SeqStore, R: Wait>(
-    rt: &R,
+/// What a thread has of its own.
+#[derive(Drop)]
+struct Worker {
+    pass: Pass,
+    work: Work,
+}
+
+/// A worker for each thread, with a part of the pass.
+fn workers<S: SeqStore>(
     alloc: Global,
     db: &Dbm<S>,
-    mut pass: Pass,
+    pass: &mut Pass,
+    threads: u32,
     work: Work,
-) -> (Pass, bool)
-    requires own { IsIdleOf S.lawful S.stands S.store_view S.constants db.now pass }
-    requires law { (m : List Pair) → S.lawful m ≡ true }
-    ensures { IsIdleOf S.lawful S.stands S.store_view S.constants db.entry.now result.0 }
+) -> Result<Vec<Worker>, NoMemory>
+    requires own { IsIdleOf S.lawful S.stands S.store_view S.constants db.now pass.old }
+    ensures own { IsIdleOf S.lawful S.stands S.store_view S.constants db.now pass.new }
+    ensures each { IfOk result (λ v.
+        All (λ w. IsIdleOf S.lawful S.stands S.store_view S.constants db.now w.pass) v.items) }
 {
+    let mut workers = Vec::new(alloc);
+    for number in 0..threads {
+        let seed = work.seed.wrapping_add(number as u64).wrapping_mul(SPREAD);
+        workers.push(Worker {
+            pass: db.split(pass),
+            work: Work { seed, ..work },
+        })?;
+    }
+    Ok(workers)
+}
+
+/// Whether all calls of one thread succeeded.
+fn turns<S: SeqStore, R: Wait>(rt: &R, alloc: Global, db: &Dbm<S>, worker: Worker) -> bool
+    requires own { IsIdleOf S.lawful S.stands S.store_view S.constants db.now worker.pass }
+    requires law { (m : List Pair) → S.lawful m ≡ true }
+{
+    let Worker { mut pass, work } = worker;
     let mut seed = work.seed;
     let mut done = true;
     for _ in 0..work.calls {
@@ -94,67 +122,29 @@ fn turns<S: SeqStore, R: Wait>(
         };
         done = done && made;
     }
-    (pass, done)
+    done
 }
 
-/// The same from two threads.
-fn two<S: SeqStore + Send + Sync, R: Threads + Wait + Sync>(
+/// Whether all calls of all workers succeeded, each in a thread of its own.
+fn race<S: SeqStore + Send + Sync, R: Threads + Wait + Sync>(
     rt: &R,
     alloc: Global,
     db: &Dbm<S>,
-    mut pass: Pass,
-    work: Work,
-) -> (Pass, bool)
-    requires own { IsIdleOf S.lawful S.stands S.store_view S.constants db.now pass }
+    workers: Vec<Worker>,
+) -> Result<bool, AllocError>
+    requires each { All (λ w. IsIdleOf S.lawful S.stands S.store_view S.constants db.now w.pass)
+        workers.items }
     requires law { (m : List Pair) → S.lawful m ≡ true }
-    ensures { IsIdleOf S.lawful S.stands S.store_view S.constants db.entry.now result.0 }
 {
-    let other = db.split(&mut pass);
-    let more = Work {
-        seed: next(work.seed),
-        ..work
-    };
-    let ((mut pass, a), (other, b)) = thread::join(
+    let done = thread::map_vec(
         rt,
-        || turns(rt, alloc, db, pass, work),
-        || turns(rt, alloc, db, other, more),
-    );
-    db.join(&mut pass, other);
-    (pass, a && b)
-}
-
-/// The same from four threads.
-fn four<S: SeqStore + Send + Sync, R: Threads + Wait + Sync>(
-    rt: &R,
-    alloc: Global,
-    db: &Dbm<S>,
-    mut pass: Pass,
-    work: Work,
-) -> (Pass, bool)
-    requires own { IsIdleOf S.lawful S.stands S.store_view S.constants db.now pass }
-    requires law { (m : List Pair) → S.lawful m ≡ true }
-    ensures { IsIdleOf S.lawful S.stands S.store_view S.constants db.entry.now result.0 }
-{
-    let other = db.split(&mut pass);
-    let more = Work {
-        seed: !work.seed,
-        ..work
-    };
-    let ((mut pass, a), (other, b)) = thread::join(
-        rt,
-        || -> (Pass, bool)
-            requires own { IsIdleOf S.lawful S.stands S.store_view S.constants db.now pass }
+        workers,
+        &|worker: Worker| -> bool
+            requires own { IsIdleOf S.lawful S.stands S.store_view S.constants db.now worker.pass }
             requires law { (m : List Pair) → S.lawful m ≡ true }
-            ensures { IsIdleOf S.lawful S.stands S.store_view S.constants db.entry.now result.0 }
-        { two(rt, alloc, db, pass, work) },
-        || -> (Pass, bool)
-            requires own { IsIdleOf S.lawful S.stands S.store_view S.constants db.now other }
-            requires law { (m : List Pair) → S.lawful m ≡ true }
-            ensures { IsIdleOf S.lawful S.stands S.store_view S.constants db.entry.now result.0 }
-        { two(rt, alloc, db, other, more) },
-    );
-    db.join(&mut pass, other);
-    (pass, a && b)
+        { turns(rt, alloc, db, worker) },
+    )?;
+    Ok(done.iter().all(|done| *done))
 }
 
 /// Sets each key to itself.
@@ -190,12 +180,9 @@ fn rate<S: SeqStore + Send + Sync + Drop, R: Threads + Wait + Clock + Sync>(
         calls: work.calls / threads.max(1),
         ..work
     };
+    let workers = workers(alloc, &db, &mut pass, threads, share)?;
     let start = Instant::now(rt)?;
-    let (_, done) = match threads {
-        1 => turns(rt, alloc, &db, pass, share),
-        2 => two(rt, alloc, &db, pass, share),
-        _ => four(rt, alloc, &db, pass, share),
-    };
+    let done = race(rt, alloc, &db, workers)?;
     let nanos = start.elapsed(rt)?.as_nanos();
     if filled && done {
         Ok(work.calls as u128 * 1_000_000_000 / nanos.max(1))
