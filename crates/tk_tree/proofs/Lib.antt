@@ -15,3 +15,5 @@ pub mod DropNumbers
 pub mod Updates
 pub mod Stored
 pub mod Given
+pub mod Sizes
+pub mod CodeSplits

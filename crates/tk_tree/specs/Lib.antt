@@ -8,3 +8,4 @@ pub mod Pages
 pub mod Reading
 pub mod Writes
 pub mod Laws
+pub mod Parts

@@ -2,5 +2,10 @@
 #![tactic(auto)]
 
 mod law;
+mod split;
 
 pub use law::{numbers_are_given, one_path_decides, pages_are_the_tree, updates_stand};
+pub use split::{LeafPart, LeafPartList, split_leaf};
+
+#[cfg(test)]
+mod tests;
