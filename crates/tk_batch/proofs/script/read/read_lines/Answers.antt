@@ -22,7 +22,7 @@ loop-rest-preserved c =
     let low : length c.loop-rest.lines < c.args.most = omega (arith, c.len.ensures, c.if-len-most.false) in
     record {
       read = lines_more (line_in c.args.rules.now) c.args.most c.args.text.now c.loop-rest.rest.now c.next_line.result.0.now c.next_line.result.1.now c.loop-rest.lines c.push.new.self c.in-Some.line c.loop-rest.invariant.read low
-        c.next_line.ensures.line (sym c.in-Some.is ∙ c.in_ok-line.ensures.line) c.in_ok-push.ensures.ok;
+          c.next_line.ensures.line (sym c.in-Some.is ∙ c.in_ok-line.ensures.line) c.in_ok-push.ensures.ok;
       workers = workers_more c.args.rules.now.workers c.loop-rest.lines c.push.new.self c.in-Some.line c.loop-rest.invariant.workers
-        (subst (λ (o : Option Line). IfSome o (λ l. l.worker < c.args.rules.now.workers)) c.in-Some.is c.in_ok-line.ensures.worker) c.in_ok-push.ensures.ok;
+          (subst (λ (o : Option Line). IfSome o (λ l. l.worker < c.args.rules.now.workers)) c.in-Some.is c.in_ok-line.ensures.worker) c.in_ok-push.ensures.ok;
     }
