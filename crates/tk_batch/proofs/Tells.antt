@@ -1,24 +1,21 @@
 -- What the workers know gives what is told.
-use Rattle.std.proofs.Common.{◌≡◌, ◌≢◌, ◌==◌, ◌⊎◌, ℕ, zero, suc, ◌+◌, ◌<◌, ◌≤◌, Bool, true, false, cond, ltb, List, [], ◌∷◌, length, map, get_or, set, refl, sym, ap, ◌∙◌, subst, arith}
+use Rattle.std.proofs.Common.{◌≡◌, ℕ, zero, suc, ◌+◌, ◌<◌, ◌≤◌, Bool, true, false, cond, ltb, List, [], ◌∷◌, length, map, get_or, refl, sym, ap, ◌∙◌, subst, arith}
 use Rattle.std.specs.Prelude.{sum_by}
 use Rattle.std.proofs.lemmas.List.Sums.{sum_by-cons}
 use Rattle.std.proofs.lemmas.List.{append-nil}
 use Rattle.std.proofs.lemmas.Bool.Decides.{nat_tests}
 use mathlib.Core.List.{IsPrefix}
-use mathlib.Core.Logic.{dite}
 use Rattle.tk_model.specs.declared.record.Pair.{Pair}
 use Rattle.tk_model.specs.declared.record.Entry.{Entry}
 use Rattle.tk_core.specs.Lists.{has, count, times, once_below}
 use Rattle.tk_batch.specs.declared.line.Line.{Line}
-use Rattle.tk_calls.specs.declared.call.Call.{Call}
-use Rattle.tk_batch.specs.declared.line.Out.{Out}
 use Rattle.tk_calls.specs.declared.call.Position.{Position}
 use Rattle.tk_calls.specs.declared.call.Position.TheVariants.{Nowhere}
-use Rattle.tk_batch.specs.Told.{Setting, Done, Deed, Told, Follows, StaysOut, deeds_of, numbered, broken, has_number}
-use Rattle.tk_batch.specs.Facts.{calls_of, deeds, want, first_done, woven, Left, Worked, AllWorked, Joined}
-use Rattle.tk_batch.specs.Woven.{HaveWorkers, rest_of, woven_outs}
+use Rattle.tk_batch.specs.Told.{Setting, Done, Told, Follows, StaysOut, deeds_of, numbered, broken, has_number}
+use Rattle.tk_batch.specs.Facts.{calls_of, deeds, woven, Left, AllWorked, Joined}
+use Rattle.tk_batch.specs.Woven.{HaveWorkers, woven_outs}
 use Rattle.tk_batch.proofs.Grow.{follows_stays}
-use Rattle.tk_batch.proofs.Weaves.{woven_deeds, woven_weighs, woven_printed, woven_length, no_calls, outs_of, out_of, Fits}
+use Rattle.tk_batch.proofs.Weaves.{woven_deeds, woven_weighs, woven_printed, woven_length, no_calls, outs_of, Fits}
 
 module _ (s : Setting) (m : List Pair) (log : List Entry) (rose spoilt : ℕ → Bool) (script : List Line) where
   dones : (w : ℕ) (xs : List Left) → AllWorked s m log rose spoilt script w xs → List (List Done)

@@ -1,16 +1,15 @@
 -- The lines of a script, woven from what each worker has.
-use Rattle.std.proofs.Common.{◌≡◌, ◌≢◌, ◌==◌, ◌⊎◌, ℕ, zero, suc, ◌+◌, ◌<◌, ◌≤◌, Bool, true, false, cond, ltb, List, [], ◌∷◌, length, map, get_or, set, refl, sym, ap, ◌∙◌, subst, arith, eq-eqb, ne_eqb, length-set}
+use Rattle.std.proofs.Common.{◌≡◌, ◌≢◌, ◌==◌, ℕ, zero, suc, ◌+◌, ◌<◌, ◌≤◌, Bool, true, false, cond, List, [], ◌∷◌, length, map, get_or, set, refl, sym, ap, ◌∙◌, subst, arith, eq-eqb, ne_eqb, length-set}
 use Rattle.std.specs.Prelude.{sum_by}
 use Rattle.std.proofs.lemmas.List.{get_or-set_other, map-set}
 use Rattle.std.proofs.lemmas.Grind.{get_or-set_at}
 use Rattle.std.proofs.lemmas.List.Sums.{sum_by-set, sum_by-cons}
-use Rattle.std.proofs.lemmas.Bool.Decides.{nat_tests}
 use mathlib.Core.Logic.{dite}
 use native.Mathlib.Decide.{ℕ_discrete}
 use Rattle.tk_batch.specs.declared.line.Line.{Line}
 use Rattle.tk_calls.specs.declared.call.Call.{Call}
 use Rattle.tk_batch.specs.declared.line.Out.{Out}
-use Rattle.tk_batch.specs.Told.{Done, Deed, deeds_of, numbered, broken}
+use Rattle.tk_batch.specs.Told.{Done, deeds_of}
 use Rattle.tk_batch.specs.Facts.{calls_of, deeds, want, first_done, woven}
 use Rattle.tk_batch.specs.Woven.{HaveWorkers, first_out, rest_of, woven_outs}
 

@@ -1,5 +1,5 @@
 -- What is known when all workers ended and their passes were joined.
-use Rattle.std.specs.Prelude.{◌≡◌, ◌<◌, ◌≤◌, ℕ, suc, Bool, true, cond, ◌==◌, List, [], ◌∷◌, length, map, get_or, set, sum_by}
+use Rattle.std.specs.Prelude.{◌≡◌, ◌≤◌, ℕ, suc, Bool, true, cond, ◌==◌, List, [], ◌∷◌, length, map, get_or, set, sum_by}
 use mathlib.Core.List.{IsPrefix}
 use Rattle.tk_status.specs.declared.Status.TheVariants as statuses
 use Rattle.tk_model.specs.Entries.{legal}

@@ -1,5 +1,5 @@
 -- What is told of a script: one history, in which each line has its place.
-use Rattle.std.specs.Prelude.{◌≡◌, ◌≢◌, ◌⊎◌, ◌+◌, ◌<◌, ◌≤◌, ℕ, Bool, true, false, ltb, cond, ◌==◌, ◌&&◌, List, [], ◌∷◌, ◌++◌, length, map, take, slice_get, Option, Some, None, All}
+use Rattle.std.specs.Prelude.{◌≡◌, ◌≢◌, ◌⊎◌, ◌+◌, ◌≤◌, ℕ, Bool, true, false, ltb, cond, ◌==◌, List, [], ◌∷◌, length, map, take, slice_get, Option, Some, None, All}
 use Rattle.tk_status.specs.declared.Status.{Status}
 use Rattle.tk_status.specs.declared.Status.TheVariants as statuses
 use Rattle.tk_model.specs.Entries.{legal, replay_entries}

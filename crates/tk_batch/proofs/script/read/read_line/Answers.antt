@@ -1,8 +1,7 @@
-use Rattle.std.proofs.Common.{◌≡◌, sym, ◌∙◌, ap, List, ℕ, Vec, Global}
-use Rattle.std.specs.Prelude.{Option, Some, None, IfOk, option_map}
+use Rattle.std.proofs.Common.{sym, ◌∙◌, ap, Vec, Global}
+use Rattle.std.specs.Prelude.{Option, option_map}
 use Rattle.tk_model.specs.declared.bytes.Bytes.{Bytes}
 use Rattle.tk_batch.specs.Script.{line_of}
-use Rattle.tk_batch.specs.declared.line.Line.{Line}
 use Rattle.tk_batch.proofs.Fields.{line_none, line_some, read_by}
 use Rattle.tk_batch.proofs.script.read.read_line.Goals as goal
 

@@ -1,4 +1,4 @@
-use Rattle.std.proofs.Common.{◌≡◌, ◌+◌, ◌<◌, ◌≤◌, length, sym, ◌∙◌, ap, subst, ℕ, arith}
+use Rattle.std.proofs.Common.{◌+◌, ◌<◌, ◌≤◌, length, sym, ◌∙◌, ap, subst, ℕ, arith}
 use Rattle.tk_batch.specs.Script.{line_in}
 use Rattle.std.specs.Prelude.{Option, IfSome}
 use Rattle.tk_batch.specs.declared.line.Line.{Line}
