@@ -7,7 +7,7 @@ pub fn lines_are_read_back()
     ensures { LinesAreReadBack }
 {}
 
-/// What the workers and the pass that theirs were joined to know at their end is that the script was told.
+/// What workers know at their end, and the pass that theirs were joined to, is that the script was told.
 pub fn facts_tell()
     ensures { FactsTell }
 {}
