@@ -1,12 +1,12 @@
 -- Lines that were written are read back.
-use Rattle.std.proofs.Common.{◌≡◌, ℕ, zero, suc, ◌<◌, ◌≤◌, ◌+◌, ◌-◌, ◌*◌, ◌^◌, Bool, true, false, nat_lt, nat_le, ◌&&◌, not, List, [], ◌∷◌, ◌++◌, length, length-append, take, drop, Option, Some, None, refl, sym, ap, ◌∙◌, subst, append_assoc, arith}
-use Rattle.std.specs.Prelude.{decimal, codes, if◌then◌else◌, ◌==◌}
+use Rattle.std.proofs.Common.{◌≡◌, ℕ, ◌≤◌, ◌+◌, ◌-◌, ◌*◌, Bool, true, false, nat_lt, nat_le, ◌&&◌, List, [], ◌∷◌, ◌++◌, length, length-append, take, drop, Option, Some, None, refl, sym, ap, ◌∙◌, subst, append_assoc, arith}
+use Rattle.std.specs.Prelude.{decimal, if◌then◌else◌}
 use Rattle.std.specs.Fmt.{signed_decimal}
 use Rattle.std.proofs.lemmas.List.Splits.{slice_split_at, slice_split_none}
 use Rattle.std.proofs.lemmas.Bool.{le-leb}
 use Rattle.std.proofs.lemmas.Bool.Decides.{nat_tests}
 use Rattle.std.proofs.Math.Seq.{take-append_seam, drop-append_seam}
-use Rattle.tk_flat.specs.Escapes.{escaped, unescaped}
+use Rattle.tk_flat.specs.Escapes.{escaped}
 use Rattle.tk_flat.specs.Tsv.{is_tab, fields_of}
 use Rattle.tk_flat.proofs.LinesBack.{no_tab}
 use Rattle.tk_proc.specs.declared.exchange.Expected.{Expected}
@@ -21,13 +21,11 @@ use Rattle.tk_calls.specs.declared.call.DesiredPair.{DesiredPair}
 use Rattle.tk_calls.specs.declared.call.Op.{Op}
 use Rattle.tk_calls.specs.declared.call.Op.TheVariants as ops
 use Rattle.tk_calls.specs.declared.call.MultiStep.{MultiStep}
-use Rattle.tk_calls.specs.Calls.{is_of_iterator}
 use Rattle.tk_batch.specs.declared.line.Line.{Line}
-use Rattle.tk_batch.specs.declared.line.ScriptRules.{ScriptRules}
 use Rattle.tk_batch.specs.Numbers.{number_in, at_most, signed_in}
-use Rattle.tk_batch.specs.Arguments.{is_key, is_value, all_keys, expected_in, desired_in, with_form, expected_pair, desired_pair, expected_pairs, desired_pairs, exchange_by, exchange_multi_by, exchange_multi_of, increment_by, op_in, with_step, multi_steps, multi_by, rekey_by}
-use Rattle.tk_batch.specs.Script.{followed, all_unescaped, call_in, taken, line_by, line_from, line_of, line_in}
-use Rattle.tk_batch.specs.Written.{joined, expected_word, desired_word, op_word, op_value, expected_fields, desired_fields, step_fields, name_of, args_of, words_of, line_body, expected_fits, desired_fits, all_expected_fit, all_desired_fit, all_steps_fit, is_within, Takes, tabbed, IsBack, AllBack, IsReadBack, LinesAreReadBack}
+use Rattle.tk_batch.specs.Arguments.{is_key, is_value, expected_in, desired_in, with_form, expected_pair, desired_pair, expected_pairs, desired_pairs, exchange_by, exchange_multi_by, exchange_multi_of, increment_by, op_in, with_step, multi_steps, multi_by}
+use Rattle.tk_batch.specs.Script.{followed, all_unescaped, call_in, taken, line_by, line_from, line_in}
+use Rattle.tk_batch.specs.Written.{joined, expected_word, desired_word, op_word, op_value, expected_fields, desired_fields, step_fields, name_of, args_of, line_body, expected_fits, desired_fits, all_expected_fit, all_desired_fit, all_steps_fit, is_within, tabbed, IsBack, AllBack, IsReadBack, LinesAreReadBack}
 use Rattle.tk_batch.proofs.Numerals.{small_read, signed_read}
 use Rattle.tk_batch.proofs.Tabs.{joined_tabbed}
 

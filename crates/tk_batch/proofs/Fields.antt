@@ -1,5 +1,5 @@
 -- The fields of a line, read one by one.
-use Rattle.std.proofs.Common.{◌≡◌, ℕ, Bool, true, false, List, [], ◌∷◌, ◌++◌, refl, sym, ap, ◌∙◌, All}
+use Rattle.std.proofs.Common.{◌≡◌, ℕ, false, List, [], ◌∷◌, ◌++◌, refl, sym, ap, ◌∙◌, All}
 use Rattle.std.specs.Prelude.{Option, Some, None, ◌==◌, Result, Ok, Err, IfOk}
 use Rattle.tk_model.specs.declared.error.NoMemory.{NoMemory}
 use Rattle.std.proofs.lemmas.List.Splits.{slice_split_at, slice_split_none}

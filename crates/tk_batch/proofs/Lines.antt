@@ -1,10 +1,12 @@
 -- A text of lines, read line by line by any reader of one line, up to so many.
-use Rattle.std.proofs.Common.{◌≡◌, ℕ, zero, suc, ◌<◌, ◌≤◌, ◌+◌, ◌-◌, Bool, true, false, cond, not, ltb, List, [], ◌∷◌, ◌++◌, length, map, position, is_none, Option, Some, None, refl, sym, ap, ◌∙◌, append_assoc, length-append, arith}
+use Rattle.std.proofs.Common.{◌≡◌, ℕ, suc, ◌<◌, ◌≤◌, ◌+◌, ◌-◌, Bool, cond, ltb, List, [], ◌∷◌, ◌++◌, length, map, position, is_none, Option, Some, None, refl, sym, ap, ◌∙◌, append_assoc, length-append, arith, subst}
 use Rattle.std.specs.List.{position_or_len}
 use Rattle.std.proofs.lemmas.List.{append-nil, length-map}
 use Rattle.std.proofs.lemmas.Bool.{lt-ltb}
 use Rattle.tk_flat.specs.Tsv.{lines_of}
 use Rattle.tk_batch.specs.Script.{read_up_to, IsFirstNone}
+use Rattle.tk_batch.specs.Woven.{HaveWorkers}
+use Rattle.tk_batch.specs.declared.line.Line.{Line}
 
 -- the lines before the rest were read, and these are they
 pub record ReadSoFar {A : Type 0} (read : List ℕ → Option A) (most : ℕ) (text rest : List ℕ) (items : List A) : Type 0 where
@@ -84,3 +86,11 @@ lines_past read most text rest line behind items at s high first is =
     ∙ ap (λ (n : ℕ). map Some items ++ read_up_to read n (lines_of rest)) left
     ∙ ap (λ (ls : List (List ℕ)). map Some items ++ read_up_to read 0 ls) first)
     is
+
+-- each line has a worker, and so has the next
+pub workers_more : (n : ℕ) (lines next : List Line) (l : Line) → HaveWorkers n lines → l.worker < n → next ≡ lines ++ l ∷ [] → HaveWorkers n next
+workers_more n lines next l h low end = subst (HaveWorkers n) (sym end) (behind lines h)
+  where
+    behind : (ls : List Line) → HaveWorkers n ls → HaveWorkers n (ls ++ l ∷ [])
+    behind [] h = (low, tt)
+    behind (x ∷ xs) h = (h.0, behind xs h.1)

@@ -5,7 +5,7 @@ use Rattle.tk_flat.specs.Escapes.{escaped}
 use Rattle.tk_calls.specs.declared.call.ExpectedPair.{ExpectedPair}
 use Rattle.tk_calls.specs.declared.call.DesiredPair.{DesiredPair}
 use Rattle.tk_calls.specs.declared.call.MultiStep.{MultiStep}
-use Rattle.tk_batch.specs.Written.{joined, tabbed, IsBack, AllBack, expected_fields, desired_fields, step_fields}
+use Rattle.tk_batch.specs.Written.{joined, tabbed, AllBack, expected_fields, desired_fields, step_fields}
 
 pub joined_tabbed : (f : List ℕ) (fs : List (List ℕ)) → joined f fs ≡ escaped f ++ tabbed fs
 joined_tabbed f [] = sym (append-nil (escaped f))

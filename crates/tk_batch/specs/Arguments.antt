@@ -1,5 +1,5 @@
 -- The arguments of each call, as the bytes of its fields.
-use Rattle.std.specs.Prelude.{ℕ, ◌*◌, ◌+◌, ◌==◌, ◌&&◌, nat_le, nat_lt, Bool, true, false, not, if◌then◌else◌, List, [], ◌∷◌, length, take, drop, ℤ, Option, Some, None, codes}
+use Rattle.std.specs.Prelude.{ℕ, ◌*◌, ◌+◌, ◌==◌, ◌&&◌, nat_le, nat_lt, Bool, true, false, if◌then◌else◌, List, [], ◌∷◌, length, take, drop, ℤ, Option, Some, None, codes}
 use Rattle.std.specs.Str.{bytes_eq}
 use Rattle.tk_proc.specs.declared.exchange.Expected.{Expected}
 use Rattle.tk_proc.specs.declared.exchange.Expected.TheVariants as expectations

@@ -4,3 +4,5 @@ pub mod Script
 pub mod Woven
 pub mod Output
 pub mod Written
+pub mod Told
+pub mod Facts

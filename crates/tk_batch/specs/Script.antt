@@ -1,5 +1,5 @@
 -- The lines of a script: worker, call and arguments, with TABs between them.
-use Rattle.std.specs.Prelude.{◌≡◌, ℕ, suc, zero, ◌+◌, ◌-◌, ◌≤◌, ◌&&◌, nat_lt, min, Bool, true, false, not, if◌then◌else◌, List, [], ◌∷◌, length, map, take, position, count_by, Option, Some, None, is_none, codes}
+use Rattle.std.specs.Prelude.{◌≡◌, ℕ, suc, zero, ◌-◌, ◌≤◌, ◌&&◌, nat_lt, min, Bool, not, if◌then◌else◌, List, [], ◌∷◌, length, map, take, position, count_by, Option, Some, None, is_none, codes}
 use Rattle.tk_flat.specs.Escapes.{unescaped}
 use Rattle.tk_flat.specs.Tsv.{fields_of, lines_of, is_lf}
 use Rattle.tk_calls.specs.declared.call.Call.{Call}

@@ -1,8 +1,9 @@
 use super::*;
 use std::test::Fail;
-use tk_calls::Call;
+use tk_calls::{Call, FieldList};
 use tk_flat::TextError;
 use tk_model::{Bytes, NoMemory};
+use tk_status::Status;
 
 /// How many lines a script of two workers has, or the first faulty one behind 1,000.
 fn read(rt: &HostRuntime, text: &[u8]) -> u64 {
@@ -173,5 +174,66 @@ fn what_a_line_is_read_as(rt: HostRuntime) -> Result<(), Fail> {
     };
     assert_eq!(rt; key.as_slice(), &b"k\t"[..]);
     assert_eq!(rt; value.as_slice(), &b"\xff="[..]);
+    Ok(())
+}
+
+#[test]
+fn lines_written_and_read_again(rt: HostRuntime) -> Result<(), Fail> {
+    let rules = ScriptRules::new(2, true);
+    let lines = read_script(rt.alloc(), &rules, EVERY_CALL)?;
+    let mut text = Bytes::new(rt.alloc());
+    for line in lines.as_slice() {
+        write_script_line(rt.alloc(), line, &mut text)?;
+    }
+    let again = read_script(rt.alloc(), &rules, text.as_slice())?;
+    assert_eq!(rt; again.len(), lines.len());
+    let mut second = Bytes::new(rt.alloc());
+    for line in again.as_slice() {
+        write_script_line(rt.alloc(), line, &mut second)?;
+    }
+    assert_eq!(rt; second.as_slice(), text.as_slice());
+    assert!(rt; text.as_slice().starts_with(b"0\tget\ta\n1\tremove\ta\n"));
+    assert!(rt;
+        text.as_slice()
+            .ends_with(b"0\tupper\tk\t1\n0\tiget\n0\tiset\tv\n")
+    );
+    Ok(())
+}
+
+fn out(
+    rt: &HostRuntime,
+    number: Option<u64>,
+    status: Status,
+    field: Option<&[u8]>,
+) -> Result<Out, NoMemory> {
+    let mut fields = FieldList::new(rt.alloc());
+    match field {
+        Some(value) => fields.push(Some(Bytes::from_slice(rt.alloc(), value)?))?,
+        None => fields.push(None)?,
+    }
+    Ok(Out {
+        number,
+        status,
+        fields,
+    })
+}
+
+#[test]
+fn answers_of_two_workers_printed(rt: HostRuntime) -> Result<(), Fail> {
+    let script = b"1\tget\ta\n0\tget\tb\n1\tget\tc\n0\tget\td\n";
+    let lines = read_script(rt.alloc(), &ScriptRules::new(2, true), script)?;
+    let mut first = OutList::new(rt.alloc());
+    first.push(out(&rt, Some(2), Status::Success, Some(b"v\t"))?)?;
+    let mut second = OutList::new(rt.alloc());
+    second.push(out(&rt, Some(0), Status::NotFound, None)?)?;
+    second.push(out(&rt, Some(1), Status::Success, Some(b""))?)?;
+    let mut text = Bytes::new(rt.alloc());
+    let script = lines.as_slice();
+    if lines.len() == 4 && script[0].worker < 2 && script[1].worker < 2 {
+        print_outs(rt.alloc(), script, &[first, second], &mut text)?;
+    }
+    let wanted =
+        b"0\t1\t1\tNOT_FOUND_ERROR\t\n2\t0\t2\tSUCCESS\t=v\\t\n1\t1\t3\tSUCCESS\t=\n-\t0\t4\tNO_MEMORY\n";
+    assert_eq!(rt; text.as_slice(), wanted.as_slice());
     Ok(())
 }

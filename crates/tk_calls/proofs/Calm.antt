@@ -1,5 +1,5 @@
 -- Which statuses replies have, and that calls say what they saw.
-use Rattle.std.proofs.Common.{◌≡◌, ℕ, Bool, true, false, List, [], ◌∷◌, map, Option, Some, None, refl, sym, ap, ◌∙◌, ◌&&◌}
+use Rattle.std.proofs.Common.{◌≡◌, ℕ, Bool, true, false, List, [], ◌∷◌, map, Option, Some, None, refl, ap, ◌∙◌, ◌&&◌}
 use Rattle.std.specs.Prelude.{ℤ, ◌+ℤ◌, ◌++◌, is_some, if◌then◌else◌, ◌==◌, length}
 use Rattle.tk_status.specs.declared.Status.{Status}
 use Rattle.tk_status.specs.declared.Status.TheVariants as statuses
@@ -8,17 +8,14 @@ use Rattle.tk_model.specs.Records.{find, named}
 use Rattle.tk_model.specs.Entries.{all_were, same_value, touched, stored}
 use Rattle.tk_model.proofs.KeyOrders.{same_itself}
 use Rattle.tk_model.specs.declared.record.Order.{Order}
-use Rattle.tk_model.specs.declared.record.Way.TheVariants.{Up, Down}
+use Rattle.tk_model.specs.declared.record.Way.TheVariants.{Up}
 use Rattle.tk_model.specs.declared.record.Bound.TheVariants.{Edge, Over, From}
 use Rattle.tk_model.specs.declared.record.Action.{Action}
 use Rattle.tk_model.specs.declared.record.Action.TheVariants.{Keep, Put, Drop}
 use Rattle.tk_model.specs.declared.record.Pair.{Pair}
-use Rattle.tk_proc.specs.declared.exchange.Desired.{Desired}
-use Rattle.tk_proc.specs.declared.exchange.Expected.{Expected}
 use Rattle.tk_proc.specs.Replies.{get_reply, set_reply, remove_reply, exchange_reply, append_reply, is_met}
 use Rattle.tk_proc.specs.Increments.{NumberReply, number_in, number_bytes, is_in_64_bits, reads_alone, read_reply, sum_reply, increment_at, increment_reply}
 use Rattle.tk_proc.specs.Runs.{first_long, is_long, status_unless_long}
-use Rattle.tk_calls.specs.declared.call.Call.{Call}
 use Rattle.tk_calls.specs.declared.call.Call.TheVariants as calls
 use Rattle.tk_calls.specs.declared.call.LineReply.{LineReply}
 use Rattle.tk_calls.specs.declared.call.Plan.{Plan}
@@ -26,7 +23,7 @@ use Rattle.tk_calls.specs.declared.call.Position.{Position}
 use Rattle.tk_calls.specs.declared.call.Position.TheVariants.{Nowhere, At, After}
 use Rattle.tk_calls.specs.declared.call.Step.{Step}
 use Rattle.tk_calls.specs.declared.call.Step.TheVariants as steps
-use Rattle.tk_calls.specs.Planned.{plan, plan_touch, planned, planned_reply, key_reply, unless_too_long, step_action}
+use Rattle.tk_calls.specs.Planned.{plan, plan_touch, planned, planned_reply, key_reply, unless_too_long}
 use Rattle.tk_calls.specs.Iterators.{is_unordered, found_or_not, found_status, value_fields, removed_place, there_place, search_reply, next_reply, previous_reply, iter_get_reply, iter_set_reply, iter_remove_reply, jump_reply}
 use Rattle.tk_calls.specs.Replies.{keep, all_there, all_met, expected_plan, desired_plan, multi_plan, moved, dropped_unless, rekeyed, rekey_reply, each_touch, reply_of}
 use Rattle.tk_calls.specs.ReplyLaws.{is_reply, RepliesAreCalm, RepliesSayWhatStandsThere}

@@ -1,7 +1,6 @@
 -- What each call of a script replies, by the records at its point and by its worker's iterator.
 use Rattle.std.specs.Prelude.{ℕ, Bool, true, false, ◌&&◌, if◌then◌else◌, List, [], ◌∷◌, ◌++◌, length, map, Option, Some, None, is_some, option_map, decimal, ℤ}
 use Rattle.std.specs.Fmt.{signed_decimal}
-use Rattle.tk_status.specs.declared.Status.{Status}
 use Rattle.tk_status.specs.declared.Status.TheVariants as statuses
 use Rattle.tk_model.specs.Orders.{same_bytes}
 use Rattle.tk_model.specs.Records.{find, named}
@@ -14,8 +13,6 @@ use Rattle.tk_model.specs.declared.record.Pair.{Pair}
 use Rattle.tk_model.specs.declared.record.Touch.{Touch}
 use Rattle.tk_model.specs.declared.record.Entry.{Entry}
 use Rattle.tk_model.specs.declared.record.Entry.TheVariants as entries
-use Rattle.tk_proc.specs.declared.exchange.Desired.{Desired}
-use Rattle.tk_proc.specs.declared.exchange.Expected.{Expected}
 use Rattle.tk_proc.specs.Replies.{get_reply, set_reply, remove_reply, append_reply, exchange_reply, is_met, desired_action}
 use Rattle.tk_proc.specs.Increments.{increment_reply}
 use Rattle.tk_proc.specs.Runs.{first_long, touches_by, keys_of}

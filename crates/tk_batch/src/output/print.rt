@@ -30,7 +30,8 @@ pub fn print_outs(
     out: &mut Bytes,
 ) -> Result<(), NoMemory>
     requires { HaveWorkers (length answers.now) script.now }
-    ensures { OnOk result (out.new ≡ out.old ++ outs_text 1 script.now (woven_outs script.now answers.now)) }
+    ensures { OnOk result (out.new ≡ out.old ++ outs_text 1 script.now
+        (woven_outs script.now answers.now)) }
 {
     let mut next = Vec::from_elem(alloc, 0usize, answers.len())?;
     let wanting = wanting(alloc);

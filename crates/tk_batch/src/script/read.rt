@@ -1,6 +1,7 @@
 //! The lines of a script.
-ghost use Rattle.std.specs.Prelude.{◌≡◌, ◌≤◌, IfOk, IfErr, Some, map, count_by, option_map};
+ghost use Rattle.std.specs.Prelude.{◌≡◌, ◌≤◌, ◌<◌, IfOk, IfErr, IfSome, Some, map, count_by, option_map};
 ghost use Rattle.tk_batch.specs.Script.{all_unescaped, call_in, call_of_several_in, taken, line_of, line_in, lines_within, read_up_to, IsScript, IsFirstNone, IsFirstBadLine};
+ghost use Rattle.tk_batch.specs.Woven.{HaveWorkers};
 ghost use Rattle.tk_flat.specs.Tsv.{fields_of, lines_of, is_lf};
 ghost use Rattle.tk_flat.specs.Errors.{Names};
 
@@ -82,7 +83,8 @@ fn taken(iterators: bool, call: Option<Call>) -> Option<Call>
 
 fn line_of(alloc: Global, rules: &ScriptRules, fields: &[Bytes]) -> Result<Option<Line>, NoMemory>
     requires { 1 ≤ rules.now.workers }
-    ensures { IfOk result (λ l. l ≡ line_of rules.now fields.now) }
+    ensures line { IfOk result (λ l. l ≡ line_of rules.now fields.now) }
+    ensures worker { IfOk result (λ l. IfSome l (λ l. l.worker < rules.now.workers)) }
 {
     let [worker, name, args @ ..] = fields else {
         return Ok(None);
@@ -123,7 +125,8 @@ fn read_fields(alloc: Global, line: &[u8]) -> Result<Option<Vec<Bytes>>, NoMemor
 
 fn read_line(alloc: Global, rules: &ScriptRules, text: &[u8]) -> Result<Option<Line>, NoMemory>
     requires { 1 ≤ rules.now.workers }
-    ensures { IfOk result (λ l. l ≡ line_in rules.now text.now) }
+    ensures line { IfOk result (λ l. l ≡ line_in rules.now text.now) }
+    ensures worker { IfOk result (λ l. IfSome l (λ l. l.worker < rules.now.workers)) }
 {
     let Some(fields) = read_fields(alloc, text)? else {
         return Ok(None);
@@ -165,6 +168,7 @@ fn read_lines(
     requires { 1 ≤ rules.now.workers }
     ensures read { IfOk result (λ lines. read_up_to (line_in rules.now) most (lines_of text.now)
         ≡ map Some lines) }
+    ensures workers { IfOk result (HaveWorkers rules.now.workers) }
     ensures line { IfErr result (Names (IsFirstNone (read_up_to (line_in rules.now) most
         (lines_of text.now)))) }
 {
@@ -188,6 +192,7 @@ fn read_lines(
 pub fn read_script(alloc: Global, rules: &ScriptRules, text: &[u8]) -> Result<LineList, TextError>
     requires { 1 ≤ rules.now.workers }
     ensures read { IfOk result (λ lines. IsScript rules.now text.now lines) }
+    ensures workers { IfOk result (HaveWorkers rules.now.workers) }
     ensures line { IfErr result (Names (IsFirstBadLine rules.now text.now)) }
 {
     read_lines(alloc, rules, lines_within(rules, text), text)

@@ -49,7 +49,8 @@ fn plan_touch(alloc: Global, plan: &Plan, records: &PairList) -> Result<Touch, N
 }
 
 fn act_in(records: &mut PairList, order: &Order, touch: &Touch) -> Result<(), NoMemory>
-    ensures { OnOk result (records.new ≡ touched order.now touch.now.key touch.now.action records.old) }
+    ensures { OnOk result (records.new ≡ touched order.now touch.now.key touch.now.action
+        records.old) }
 {
     match &touch.action {
         Action::Keep => {}

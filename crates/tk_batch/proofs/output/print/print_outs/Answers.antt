@@ -1,4 +1,4 @@
-use Rattle.std.proofs.Common.{◌≡◌, ◌++◌, ◌+◌, ◌<◌, sym, ap, ◌∙◌, arith, length, List, ℕ, get_or, replicate, rules}
+use Rattle.std.proofs.Common.{◌≡◌, ◌++◌, ◌+◌, ◌<◌, sym, ap, ◌∙◌, arith, length, get_or, replicate, rules}
 use Rattle.tk_batch.specs.declared.line.Out.{Out}
 use Rattle.tk_batch.specs.declared.line.Line.{Line}
 use Rattle.tk_batch.specs.Output.{out_text}

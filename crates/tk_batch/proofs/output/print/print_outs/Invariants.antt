@@ -1,4 +1,3 @@
-use Rattle.std.proofs.Common.{◌≡◌}
 use Rattle.tk_batch.proofs.Prints.{Printed}
 use Rattle.tk_batch.proofs.output.print.print_outs.Given as goal
 

@@ -1,4 +1,4 @@
-use Rattle.std.proofs.Common.{◌≡◌, ◌++◌, ◌∷◌, [], ◌∙◌, sym, ap}
+use Rattle.std.proofs.Common.{◌++◌, ◌∷◌, [], ◌∙◌, ap}
 use Rattle.std.specs.Prelude.{decimal}
 use Rattle.tk_status.specs.Statuses.{text_of}
 use Rattle.tk_batch.specs.Output.{number_text, fields_text}

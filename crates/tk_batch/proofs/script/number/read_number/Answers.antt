@@ -1,4 +1,4 @@
-use Rattle.std.proofs.Common.{◌≡◌, ◌≤◌, arith, rules, refl, get_or}
+use Rattle.std.proofs.Common.{◌≤◌, rules, refl, get_or}
 use Rattle.tk_batch.proofs.Digits.{stops}
 use Rattle.tk_batch.proofs.script.number.read_number.Goals as goal
 

@@ -1,4 +1,4 @@
-use Rattle.std.proofs.Common.{◌≡◌, sym, ◌∙◌}
+use Rattle.std.proofs.Common.{sym, ◌∙◌}
 use Rattle.tk_batch.proofs.Fields.{field_more, field_bad, field_last, field_last_bad}
 use Rattle.tk_batch.proofs.script.read.read_fields.Goals as goal
 

@@ -1,4 +1,4 @@
-use Rattle.std.proofs.Common.{◌≡◌, ◌++◌, ◌∷◌, [], sym, ◌∙◌, ap, subst, drop, true, List, ℕ}
+use Rattle.std.proofs.Common.{◌≡◌, ◌++◌, ◌∷◌, [], sym, ◌∙◌, ap, subst, drop, List, ℕ}
 use Rattle.tk_batch.specs.Arguments.{is_key, desired_in, desired_pair, desired_pairs}
 use Rattle.tk_batch.proofs.Pairs.{pairs_more, two_front, all_behind, after}
 use Rattle.tk_batch.proofs.script.several.read_desired_pairs.Goals as goal

@@ -1,5 +1,4 @@
-use Rattle.std.proofs.Common.{◌≡◌, ◌++◌, ◌∷◌, [], sym, ◌∙◌, ap, subst, drop, true, List, ℕ}
-use Rattle.tk_calls.specs.declared.call.MultiStep.{MultiStep}
+use Rattle.std.proofs.Common.{◌≡◌, ◌++◌, ◌∷◌, [], sym, ◌∙◌, ap, subst, drop, List, ℕ}
 use Rattle.tk_batch.specs.Arguments.{is_key, op_in, multi_steps}
 use Rattle.tk_batch.proofs.Pairs.{steps_more, steps_long, three_front, all_behind_3, after}
 use Rattle.tk_batch.proofs.script.several.read_steps.Goals as goal

@@ -1,5 +1,4 @@
-use Rattle.std.proofs.Common.{◌≡◌, ◌++◌, ◌∷◌, [], ℕ, List, refl, ap, ◌∙◌, subst, sym}
-use Rattle.tk_batch.specs.Written.{tabbed, AllBack}
+use Rattle.std.proofs.Common.{refl}
 use Rattle.tk_batch.proofs.Tabs.{tabs_more, tabs_text, tabs_back, themselves}
 use Rattle.tk_batch.proofs.script.write.put_fields.Goals as goal
 

@@ -1,4 +1,4 @@
-use Rattle.std.proofs.Common.{◌≡◌, ◌++◌, drop, map}
+use Rattle.std.proofs.Common.{◌≡◌, ◌++◌, drop}
 use Rattle.tk_proc.specs.Runs.{keys_of}
 use Rattle.tk_calls.proofs.plain.lists.keys_of.Given as goal
 

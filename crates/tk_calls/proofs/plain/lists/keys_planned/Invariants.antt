@@ -1,4 +1,4 @@
-use Rattle.std.proofs.Common.{◌≡◌, ◌++◌, drop, map}
+use Rattle.std.proofs.Common.{◌≡◌, ◌++◌, drop}
 use Rattle.tk_calls.specs.Planned.{keys_planned}
 use Rattle.tk_calls.proofs.plain.lists.keys_planned.Given as goal
 
