@@ -6,5 +6,5 @@ pub mod PlainSteps
 pub mod ReadSteps
 pub mod RestoredSteps
 pub mod SpelledSteps
-pub mod Tests
+pub mod Told
 pub mod WritesSay

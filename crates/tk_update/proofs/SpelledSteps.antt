@@ -26,7 +26,7 @@ use Rattle.tk_update.specs.Spelled.{placed_at, Spells}
 use Rattle.tk_update.proofs.KeptKeys.{head_stays, body_stays, keeps_keys}
 use Rattle.tk_update.proofs.LeftPasts.{left_by_past}
 use Rattle.tk_update.proofs.FairSteps.{head_long, extent_least, put_more, unchanged_less}
-use Rattle.tk_update.proofs.Tests.{not_both, no_some, same_some}
+use Rattle.tk_update.proofs.Told.{not_both, no_some, same_some}
 
 -- ---- what is spelled is read
 
