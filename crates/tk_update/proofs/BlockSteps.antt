@@ -17,7 +17,7 @@ use Rattle.tk_block.specs.Layout.{Placed}
 use Rattle.tk_update.specs.Blocks.{set_body, void_body, is_of, block_of, better, best_void, appended, written_at, voided, put_into, put_over, put_block, blocks_after_one, blocks_after, AreInLine, KeyIsOnce, KeysAreOnce, KeepPlaces, records_in, value_in}
 use Rattle.tk_update.specs.Laws.{BlocksAreRecords}
 use Rattle.tk_update.specs.Spelled.{placed_at}
-use Rattle.tk_update.proofs.Tests.{two_true, not_both, no_some, same_some, told, within, false_unless}
+use Rattle.tk_update.proofs.Told.{two_true, not_both, no_some, same_some, told, within, false_unless}
 
 -- ---- tests
 

@@ -23,7 +23,7 @@ use Rattle.tk_update.specs.Restored.{Seen, inside, seen_here, seen_from, seen_in
 use Rattle.tk_update.specs.Untorn.{AnySeen, AllSeen, body_alone, body_behind, StoodAt}
 use Rattle.tk_update.proofs.KeptKeys.{all_writes, all_seen}
 use Rattle.tk_update.proofs.WritesSay.{said_reuse, said_overwrite, said_append, said_cell}
-use Rattle.tk_update.proofs.Tests.{not_both, no_some, same_some, told}
+use Rattle.tk_update.proofs.Told.{not_both, no_some, same_some, told}
 
 -- ---- blocks follow one another
 

@@ -24,7 +24,7 @@ use Rattle.tk_update.specs.Laws.{FairKeepsKeys}
 use Rattle.tk_update.specs.Restored.{Seen, inside, seen_here, seen_from, valid_here, valid_blocks, seen_in, blocks_in, blocks_by, newer, newest_of, restored_value}
 use Rattle.tk_update.specs.Untorn.{AnySeen, AllSeen, IsKnownBody, UntornFrom, IsUntornBy, body_written}
 use Rattle.tk_update.proofs.BlockSteps.{key_is}
-use Rattle.tk_update.proofs.Tests.{two_false, not_both, no_some, same_some, within}
+use Rattle.tk_update.proofs.Told.{two_false, not_both, no_some, same_some, within}
 
 -- the value that a key is restored with under this header
 abbrev value_by : StaticHead → List ℕ → (key : List ℕ) → Option (List ℕ)

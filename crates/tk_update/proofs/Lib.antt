@@ -3,7 +3,8 @@ pub mod FairSteps
 pub mod KeptKeys
 pub mod LeftPasts
 pub mod PlainSteps
+pub mod ReadSteps
 pub mod RestoredSteps
 pub mod SpelledSteps
-pub mod Tests
+pub mod Told
 pub mod WritesSay

@@ -26,7 +26,7 @@ use Rattle.tk_update.specs.Spelled.{placed_at, Spells}
 use Rattle.tk_update.proofs.KeptKeys.{head_stays, body_stays, keeps_keys}
 use Rattle.tk_update.proofs.LeftPasts.{left_by_past}
 use Rattle.tk_update.proofs.FairSteps.{head_long, extent_least, put_more, unchanged_less}
-use Rattle.tk_update.proofs.Tests.{not_both, no_some, same_some}
+use Rattle.tk_update.proofs.Told.{not_both, no_some, same_some}
 
 -- ---- what is spelled is read
 
@@ -34,7 +34,7 @@ nothing : (q : ℕ) (o : Option ℕ) → head_at [] q ≡ o → o ≡ None
 nothing q None is = refl
 nothing q (Some e) is = absurd (omega (arith, head_long [] q e is))
 
-read_end : (n q : ℕ) (f : List ℕ) → length f ≤ q → valid_blocks (seen_from n q f) ≡ []
+pub read_end : (n q : ℕ) (f : List ℕ) → length f ≤ q → valid_blocks (seen_from n q f) ≡ []
 read_end zero q f short = refl
 read_end (suc n) q f short =
     let none : head_at (drop q f) q ≡ None = ap (λ (l : List ℕ). head_at l q) (drop_all q f short) ∙ nothing q (head_at [] q) refl in

@@ -14,7 +14,7 @@ use Rattle.tk_block.proofs.BodyGrammar.{bodies, length-body_text}
 use Rattle.tk_block.proofs.BlockReads.{block_head, block_body}
 use Rattle.tk_disk.specs.Past.{Write}
 use Rattle.tk_update.specs.Untorn.{body_written, body_behind, body_alone}
-use Rattle.tk_update.proofs.Tests.{no_some, same_some, told}
+use Rattle.tk_update.proofs.Told.{no_some, same_some, told}
 
 -- ---- first bytes
 

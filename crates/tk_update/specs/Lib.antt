@@ -3,6 +3,7 @@ pub mod FairPast
 pub mod KeptKeys
 pub mod Laws
 pub mod Plain
+pub mod Reread
 pub mod Restored
 pub mod Spelled
 pub mod Untorn

@@ -249,14 +249,15 @@ pub struct PlainBlocks {
 }
 
 impl Model for PlainBlocks {
-    ghost use Rattle.std.specs.Prelude.{◌≤◌, ◌^◌};
+    ghost use Rattle.std.specs.Prelude.{◌≤◌, ◌<◌, ◌^◌};
+    ghost use Rattle.tk_update.specs.Blocks.{end_behind};
     ghost use Rattle.tk_update.specs.Plain.{BlocksFrom};
 
     ghost Value = { BlocksFrom };
 
     ghost view = { λ m. record { base = m.base; blocks = m.blocks } };
 
-    ghost invariant = { λ m. m.base ≤ 2 ^ 40 };
+    ghost invariant = { λ m. (m.base ≤ 2 ^ 40) × (end_behind m.base m.blocks < 2 ^ 63) };
 }
 
 impl PlainBlocks {
@@ -279,7 +280,6 @@ impl PlainBlocks {
 
     /// Where they end.
     pub fn end(&self) -> u64
-        requires { end_behind self.now.base self.now.blocks < 2 ^ 64 }
         ensures { result ≡ end_behind self.now.base self.now.blocks }
     {
         end_behind(self.base, self.blocks.as_slice())
