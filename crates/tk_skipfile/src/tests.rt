@@ -79,3 +79,73 @@ fn a_fault_at_the_header_leaves_none(rt: HostRuntime) -> Result<(), Fail> {
     assert!(rt; !disk.bytes().starts_with(b"TKPSKIP\n"));
     Ok(())
 }
+
+#[test]
+fn seventeen_records_on_three_levels(rt: HostRuntime) -> Result<(), Fail> {
+    let alloc = rt.alloc();
+    let mut pairs = PairList::new(alloc);
+    add(alloc, &mut pairs, b"a", b"")?;
+    add(alloc, &mut pairs, b"b", b"v")?;
+    add(alloc, &mut pairs, b"c", b"vv")?;
+    add(alloc, &mut pairs, b"d", b"")?;
+    add(alloc, &mut pairs, b"e", b"v")?;
+    add(alloc, &mut pairs, b"f", b"vv")?;
+    add(alloc, &mut pairs, b"g", b"")?;
+    add(alloc, &mut pairs, b"h", b"v")?;
+    add(alloc, &mut pairs, b"i", b"vv")?;
+    add(alloc, &mut pairs, b"j", b"")?;
+    add(alloc, &mut pairs, b"k", b"v")?;
+    add(alloc, &mut pairs, b"l", b"vv")?;
+    add(alloc, &mut pairs, b"m", b"")?;
+    add(alloc, &mut pairs, b"n", b"v")?;
+    add(alloc, &mut pairs, b"o", b"vv")?;
+    add(alloc, &mut pairs, b"p", b"")?;
+    add(alloc, &mut pairs, b"q", b"v")?;
+    assert!(rt; fits_skip(&pairs));
+    let mut disk = empty_disk(alloc, FaultList::new(alloc))?;
+    write_skip(alloc, &mut disk, 7, &pairs)?;
+    assert_eq!(rt; sum_of(&disk), (291, 0x35b9b839));
+    Ok(())
+}
+
+#[test]
+fn four_records_on_one_level(rt: HostRuntime) -> Result<(), Fail> {
+    let alloc = rt.alloc();
+    let mut pairs = PairList::new(alloc);
+    add(alloc, &mut pairs, b"a", b"")?;
+    add(alloc, &mut pairs, b"b", b"v")?;
+    add(alloc, &mut pairs, b"c", b"vv")?;
+    add(alloc, &mut pairs, b"d", b"")?;
+    assert!(rt; fits_skip(&pairs));
+    let mut disk = empty_disk(alloc, FaultList::new(alloc))?;
+    write_skip(alloc, &mut disk, 7, &pairs)?;
+    assert_eq!(rt; sum_of(&disk), (79, 0xc416b1cd));
+    Ok(())
+}
+
+#[test]
+fn sixteen_records_on_two_levels(rt: HostRuntime) -> Result<(), Fail> {
+    let alloc = rt.alloc();
+    let mut pairs = PairList::new(alloc);
+    add(alloc, &mut pairs, b"a", b"")?;
+    add(alloc, &mut pairs, b"b", b"v")?;
+    add(alloc, &mut pairs, b"c", b"vv")?;
+    add(alloc, &mut pairs, b"d", b"")?;
+    add(alloc, &mut pairs, b"e", b"v")?;
+    add(alloc, &mut pairs, b"f", b"vv")?;
+    add(alloc, &mut pairs, b"g", b"")?;
+    add(alloc, &mut pairs, b"h", b"v")?;
+    add(alloc, &mut pairs, b"i", b"vv")?;
+    add(alloc, &mut pairs, b"j", b"")?;
+    add(alloc, &mut pairs, b"k", b"v")?;
+    add(alloc, &mut pairs, b"l", b"vv")?;
+    add(alloc, &mut pairs, b"m", b"")?;
+    add(alloc, &mut pairs, b"n", b"v")?;
+    add(alloc, &mut pairs, b"o", b"vv")?;
+    add(alloc, &mut pairs, b"p", b"")?;
+    assert!(rt; fits_skip(&pairs));
+    let mut disk = empty_disk(alloc, FaultList::new(alloc))?;
+    write_skip(alloc, &mut disk, 7, &pairs)?;
+    assert_eq!(rt; sum_of(&disk), (255, 0x58fca801));
+    Ok(())
+}
