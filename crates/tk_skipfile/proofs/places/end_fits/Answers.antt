@@ -1,6 +1,4 @@
-use Rattle.std.proofs.Common.{◌≡◌, ◌+◌, ◌≤◌, ◌<◌, ◌^◌, ℕ, List, length, drop, sym, ap, ◌∙◌, arith}
-use Rattle.std.proofs.lemmas.List.{drop_all}
-use Rattle.tk_model.specs.declared.record.Pair.{Pair}
+use Rattle.std.proofs.Common.{◌+◌, ◌<◌, ◌^◌, ℕ, drop, sym, ap, ◌∙◌, arith}
 use Rattle.tk_skipfile.specs.SkipText.{end_from}
 use Rattle.tk_skipfile.proofs.TextSteps.{held_at, end_more, end_behind}
 use Rattle.tk_skipfile.proofs.places.end_fits.Goals as goal
