@@ -14,7 +14,7 @@ import sys
 HOME = os.path.dirname(os.path.dirname(os.path.abspath(__file__)))
 WORD = re.compile(r"[A-Za-z_][A-Za-z0-9_]*")
 # Names of the outside that look like names of the sources.
-OUTSIDE = {"tkrzw_dbm_util", "PATH", "TKPHASH", "TKPFLAT", "TKB1", "LF", "TAB", "PWD", "mktemp", "CI"}
+OUTSIDE = {"tkrzw_dbm_util", "PATH", "TKPHASH", "TKPFLAT", "TKPSKIP", "TKB1", "LF", "TAB", "PWD", "mktemp", "CI"}
 OUTSIDE |= {"SUCCESS", "NOT_FOUND_ERROR", "FULL", "FILE", "KEY", "VALUE", "OLD", "NEW", "GLOBAL", "GLIBC_TUNABLES"}
 
 

@@ -1,3 +1,4 @@
-pub mod Powers
 pub mod LevelSteps
+pub mod Powers
 pub mod TextSteps
+pub mod Wordless

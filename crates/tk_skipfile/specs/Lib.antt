@@ -1,1 +1,2 @@
+pub mod HeaderLast
 pub mod SkipText

@@ -11,6 +11,10 @@ use Rattle.tk_append.specs.Pieces.{words_text}
 abbrev pub header_size : ℕ
 header_size = 32
 
+-- `TKPSKIP` and LF
+abbrev pub skip_word : List ℕ
+skip_word = 0x54 ∷ 0x4b ∷ 0x50 ∷ 0x53 ∷ 0x4b ∷ 0x49 ∷ 0x50 ∷ 0x0a ∷ []
+
 -- the first number of levels from this one on, of so many, whose power of four is at least the count
 abbrev pub levels_from : (most levels count : ℕ) → ℕ
 levels_from zero levels count = levels
@@ -20,10 +24,10 @@ levels_from (suc n) levels count = if nat_le count (4 ^ levels) then levels else
 unfoldable pub levels_of : (count : ℕ) → ℕ
 levels_of count = levels_from 32 0 count
 
--- `TKPSKIP` and LF, version 1, unit 4, the levels, a zero byte, the count of records, the generation
+-- the word, version 1, unit 4, the levels, a zero byte, the count of records, the generation
 unfoldable pub header_front : (count generation : ℕ) → List ℕ
 header_front count generation =
-    0x54 ∷ 0x4b ∷ 0x50 ∷ 0x53 ∷ 0x4b ∷ 0x49 ∷ 0x50 ∷ 0x0a ∷ 1 ∷ 4 ∷ levels_of count ∷ 0 ∷ to_be_bytes w64 count ++ to_be_bytes w64 generation
+    skip_word ++ 1 ∷ 4 ∷ levels_of count ∷ 0 ∷ to_be_bytes w64 count ++ to_be_bytes w64 generation
 
 unfoldable pub header_text : (count generation : ℕ) → List ℕ
 header_text count generation = header_front count generation ++ to_be_bytes w32 (fnv32_of (header_front count generation))

@@ -9,6 +9,7 @@ mod record;
 mod write;
 
 pub use header::write_header;
+pub use places::fits_skip;
 pub use write::write_skip;
 
 #[cfg(test)]

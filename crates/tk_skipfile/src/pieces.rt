@@ -2,6 +2,7 @@ ghost use Rattle.std.specs.Prelude.{◌≡◌, ◌+◌, ◌≤◌, ◌<◌, ◌+
 ghost use Rattle.std.specs.Option.{is_some};
 ghost use Rattle.tk_disk.specs.Disk.{HasCause};
 ghost use Rattle.tk_append.specs.Pieces.{Holds};
+ghost use Rattle.tk_skipfile.specs.HeaderLast.{WritesNoWord};
 
 use tk_disk::{Disk, DiskError};
 use tk_model::Bytes;
@@ -15,6 +16,7 @@ pub(crate) fn flush<D: Disk>(
     at: &mut u64,
     waiting: &mut Bytes,
 ) -> Result<(), DiskError>
+    requires behind { 0 < at.old }
     requires here { IfSome (D.image disk.old) (λ f. length f ≡ at.old) }
     requires end { at.old + length waiting.old ≤ 2 ^ 40 }
     ensures text { (text : List ℕ) → Holds (D.image disk.old) at.old waiting.old text
@@ -22,8 +24,10 @@ pub(crate) fn flush<D: Disk>(
     ensures here { OnOk result (IfSome (D.image disk.new) (λ f. length f ≡ at.new)) }
     ensures waits { OnOk result (waiting.new ≡ []) }
     ensures end { OnOk result (at.new + length waiting.new ≡ at.old + length waiting.old) }
+    ensures front { OnOk result (at.old ≤ at.new) }
     ensures told { is_some (D.image disk.new) ≡ is_some (D.image disk.old) }
     ensures cause { HasCause (D.fault_count disk.old) (D.fault_count disk.new) result }
+    ensures no_word { WritesNoWord D.past D.moment D.left_with disk.old disk.new }
 {
     disk.write_at(*at, waiting.as_slice())?;
     *at += waiting.len() as u64;
@@ -37,14 +41,17 @@ pub(crate) fn flush_piece<D: Disk>(
     at: &mut u64,
     waiting: &mut Bytes,
 ) -> Result<(), DiskError>
+    requires behind { 0 < at.old }
     requires here { IfSome (D.image disk.old) (λ f. length f ≡ at.old) }
     requires end { at.old + length waiting.old ≤ 2 ^ 40 }
     ensures text { (text : List ℕ) → Holds (D.image disk.old) at.old waiting.old text
         → OnOk result (Holds (D.image disk.new) at.new waiting.new text) }
     ensures here { OnOk result (IfSome (D.image disk.new) (λ f. length f ≡ at.new)) }
     ensures end { OnOk result (at.new + length waiting.new ≡ at.old + length waiting.old) }
+    ensures front { OnOk result (at.old ≤ at.new) }
     ensures told { is_some (D.image disk.new) ≡ is_some (D.image disk.old) }
     ensures cause { HasCause (D.fault_count disk.old) (D.fault_count disk.new) result }
+    ensures no_word { WritesNoWord D.past D.moment D.left_with disk.old disk.new }
 {
     if waiting.len() < PIECE {
         return Ok(());

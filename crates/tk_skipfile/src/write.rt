@@ -1,11 +1,12 @@
 ghost use Rattle.std.specs.Prelude.{◌≡◌, ◌+◌, ◌≤◌, ◌<◌, ◌++◌, ◌^◌, List, ℕ, [], length, replicate, IfSome, OnOk, Some};
 ghost use Rattle.std.specs.Option.{is_some};
-ghost use Rattle.tk_disk.specs.Crash.{Only};
+ghost use Rattle.tk_disk.specs.Crash.{Only, PastOnly};
 ghost use Rattle.tk_disk.specs.Past.{settled_on};
 ghost use Rattle.tk_disk.specs.Disk.{HasFaultCause};
 ghost use Rattle.tk_model.specs.RecordText.{FitsRecord};
 ghost use Rattle.tk_model.specs.Records.{AllHeld};
 ghost use Rattle.tk_append.specs.Pieces.{Holds};
+ghost use Rattle.tk_skipfile.specs.HeaderLast.{WritesNoWord, IsSkipMoment};
 ghost use Rattle.tk_skipfile.specs.SkipText.{size_of, end_from, linked_text, texts_from, records_text, skip_text, skip_size};
 
 use crate::header::write_header;
@@ -27,6 +28,7 @@ fn put_record<D: Disk>(
     i: u64,
     pair: &Pair,
 ) -> Result<(), DiskError>
+    requires behind { 0 < at.old }
     requires here { IfSome (D.image disk.old) (λ f. length f ≡ at.old) }
     requires levels { levels ≤ 32 }
     requires i { i < 2 ^ 62 }
@@ -38,8 +40,10 @@ fn put_record<D: Disk>(
     ensures here { OnOk result (IfSome (D.image disk.new) (λ f. length f ≡ at.new)) }
     ensures end { OnOk result (at.new + length waiting.new ≡ at.old + length waiting.old + size_of
         levels i pair.now) }
+    ensures front { OnOk result (at.old ≤ at.new) }
     ensures told { is_some (D.image disk.new) ≡ is_some (D.image disk.old) }
     ensures cause { HasFaultCause (D.fault_count disk.old) (D.fault_count disk.new) result }
+    ensures no_word { WritesNoWord D.past D.moment D.left_with disk.old disk.new }
 {
     let place = *at + waiting.len() as u64;
     put_linked(levels, places, i, pair, place, waiting)?;
@@ -56,6 +60,7 @@ fn put_records<D: Disk>(
     places: &[u64],
     pairs: &[Pair],
 ) -> Result<(), DiskError>
+    requires behind { 0 < at.old }
     requires here { IfSome (D.image disk.old) (λ f. length f ≡ at.old) }
     requires levels { levels ≤ 32 }
     requires held { AllHeld pairs.now }
@@ -66,8 +71,10 @@ fn put_records<D: Disk>(
     ensures here { OnOk result (IfSome (D.image disk.new) (λ f. length f ≡ at.new)) }
     ensures end { OnOk result (at.new + length waiting.new ≡ end_from levels 0
         (at.old + length waiting.old) pairs.now) }
+    ensures front { OnOk result (at.old ≤ at.new) }
     ensures told { is_some (D.image disk.new) ≡ is_some (D.image disk.old) }
     ensures cause { HasFaultCause (D.fault_count disk.old) (D.fault_count disk.new) result }
+    ensures no_word { WritesNoWord D.past D.moment D.left_with disk.old disk.new }
 {
     for (i, pair) in pairs.iter().enumerate() {
         put_record(disk, at, waiting, levels, places, i as u64, pair)?;
@@ -84,6 +91,7 @@ fn write_records<D: Disk>(alloc: Global, disk: &mut D, pairs: &[Pair]) -> Result
         D.image disk.new ≡ Some (replicate 32 0 ++ records_text pairs.now))) }
     ensures told { is_some (D.image disk.new) ≡ is_some (D.image disk.old) }
     ensures cause { HasFaultCause (D.fault_count disk.old) (D.fault_count disk.new) result }
+    ensures no_word { WritesNoWord D.past D.moment D.left_with disk.old disk.new }
 {
     let levels = levels_of(pairs.len() as u64);
     let places = places_of(alloc, levels, pairs)?;
@@ -106,6 +114,8 @@ fn write_rest<D: Disk>(alloc: Global, disk: &mut D, pairs: &[Pair]) -> Result<()
     ensures settled { OnOk result (IfSome (D.image disk.new) (λ f. D.past disk.new ≡ settled_on f)) }
     ensures told { is_some (D.image disk.new) ≡ is_some (D.image disk.old) }
     ensures cause { HasFaultCause (D.fault_count disk.old) (D.fault_count disk.new) result }
+    ensures no_word { IfSome (D.image disk.old) (λ _.
+        WritesNoWord D.past D.moment D.left_with disk.old disk.new) }
 {
     write_records(alloc, disk, pairs)?;
     disk.sync(true)?;
@@ -129,6 +139,9 @@ pub fn write_skip<D: Disk>(
     ensures settled { OnOk result (IfSome (D.image disk.new) (λ f. D.past disk.new ≡ settled_on f)) }
     ensures told { is_some (D.image disk.new) ≡ is_some (D.image disk.old) }
     ensures cause { HasFaultCause (D.fault_count disk.old) (D.fault_count disk.new) result }
+    // at each moment all records are durable, or no new header is known
+    ensures header_last { IfSome (D.image disk.old) (λ _. PastOnly D.moment D.left_with disk.old
+        disk.new (IsSkipMoment pairs.now (D.past disk.old))) }
 {
     write_rest(alloc, disk, pairs.as_slice())?;
     disk.write_at(0, &write_header(pairs.len() as u64, generation))?;

@@ -19,7 +19,7 @@ pub overflow_add-place : goal.overflow_add-place
 overflow_add-place c =
     let p = c.index-pairs-i.result in
     let rest = drop (c.loop-i.i + 1) c.args.pairs.now in
-    let size = c.size_of-place.ensures p (sym c.len.ensures) (sym c.len-in-loop-i.ensures) in
+    let size = c.size_of-place.ensures.value p (sym c.len.ensures) (sym c.len-in-loop-i.ensures) in
     let most = end_behind c.args.levels (c.loop-i.i + 1) (c.loop-i.place + size_of c.args.levels c.loop-i.i p) rest in
     let here = ap (λ (l : List Pair). end_from c.args.levels c.loop-i.i c.loop-i.place l) (cut c.args.pairs.now c.loop-i.i p c.loop-i-test.true c.index-pairs-i.is) in
     omega (arith, size, most, here, c.loop-i.invariant.end, c.requires.end)
@@ -30,7 +30,7 @@ loop-i-preserved c =
     let levels = c.args.levels in
     let i = c.loop-i.i in
     let rest = drop (i + 1) c.args.pairs.now in
-    let size = c.size_of-place.ensures p (sym c.len.ensures) (sym c.len-in-loop-i.ensures) in
+    let size = c.size_of-place.ensures.value p (sym c.len.ensures) (sym c.len-in-loop-i.ensures) in
     let here = cut c.args.pairs.now i p c.loop-i-test.true c.index-pairs-i.is in
     record {
       places =

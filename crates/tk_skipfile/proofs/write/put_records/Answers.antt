@@ -4,6 +4,7 @@ use Rattle.tk_append.specs.Pieces.{Holds}
 use Rattle.tk_skipfile.specs.SkipText.{size_of, end_from, linked_text}
 use Rattle.tk_skipfile.proofs.TextSteps.{held_at, end_behind, end_more, texts_more, texts_end}
 use Rattle.std.proofs.lemmas.List.{drop_all}
+use Rattle.tk_skipfile.proofs.Wordless.{wordless_joined}
 use Rattle.tk_skipfile.proofs.write.put_records.Goals as goal
 
 pub put_record-requires-clause-fits : goal.put_record-requires-clause-fits
@@ -37,6 +38,8 @@ loop-i-preserved g c =
           );
       here = c.in_ok-put_record.ensures.here;
       end = sym (end_more c.args.levels i place next c.args.pairs.now p c.loop-i-test.true c.index-pairs-i.is c.in_ok-put_record.ensures.end) ∙ c.loop-i.invariant.end;
+      behind = omega (arith, c.loop-i.invariant.behind, c.in_ok-put_record.ensures.front);
+      no_word = wordless_joined g.D.Disk.past g.D.Disk.moment g.D.Disk.left_with _ _ _ c.loop-i.invariant.no_word c.put_record.ensures.no_word;
       told = c.in_ok-put_record.ensures.told ∙ c.loop-i.invariant.told;
       count = c.in_ok-put_record.ensures.cause.kept ∙ c.loop-i.invariant.count;
     }
@@ -50,3 +53,6 @@ returns-clause-text g c text h =
 pub returns-clause-end : goal.returns-clause-end
 returns-clause-end g c =
     sym (ap (λ (l : List Pair). end_from c.args.levels c.loop-i.i (c.loop-i.at + length c.loop-i.waiting) l) (drop_all c.loop-i.i c.args.pairs.now c.loop-i-test.false)) ∙ c.loop-i.invariant.end
+
+pub returns-in_err-put_record-clause-no_word : goal.returns-in_err-put_record-clause-no_word
+returns-in_err-put_record-clause-no_word g c = wordless_joined g.D.Disk.past g.D.Disk.moment g.D.Disk.left_with _ _ _ c.loop-i.invariant.no_word c.put_record.ensures.no_word
