@@ -43,7 +43,7 @@ contains_cons : {A : Type 0} (a x : A) (xs : List A) → Contains (x ∷ xs) a �
 contains_cons a x xs (zero, low, at) = inl at
 contains_cons a x xs (suc k, low, at) = inr (k, omega arith, at)
 
-contains_next : {A : Type 0} (a x : A) (xs : List A) → Contains xs a → Contains (x ∷ xs) a
+pub contains_next : {A : Type 0} (a x : A) (xs : List A) → Contains xs a → Contains (x ∷ xs) a
 contains_next a x xs (k, low, at) = (suc k, omega arith, at)
 
 contains_first : {A : Type 0} (a : A) (xs : List A) → Contains (a ∷ xs) a
@@ -68,7 +68,7 @@ told_newest i a (c ∷ cs) h = ⊎_elim (λ (e : c ≡ (i, a)). ap (λ (b : Bool
     either true t = refl
     either false t = t
 
-newest_here : {A : Type 0} (i : ℕ) (a : A) (ps : List (ℕ × A)) → newest i ((i, a) ∷ ps) ≡ Some a
+pub newest_here : {A : Type 0} (i : ℕ) (a : A) (ps : List (ℕ × A)) → newest i ((i, a) ∷ ps) ≡ Some a
 newest_here i a ps = ap (λ (z : Bool). if z then Some a else newest i ps) (eq-eqb i i refl)
 
 newest_past : {A : Type 0} (i j : ℕ) (a : A) (ps : List (ℕ × A)) → j ≢ i → newest j ((i, a) ∷ ps) ≡ newest j ps
@@ -127,7 +127,7 @@ or_second true q r t e = refl
 or_second false true r t e = refl
 or_second false false r t e = absurd (cc (e))
 
-or_third : (p q r t : Bool) → r ≡ true → (p || q || r || t) ≡ true
+pub or_third : (p q r t : Bool) → r ≡ true → (p || q || r || t) ≡ true
 or_third true q r t e = refl
 or_third false true r t e = refl
 or_third false false true t e = refl

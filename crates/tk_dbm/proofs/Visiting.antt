@@ -6,14 +6,14 @@ use mathlib.Core.List.{IsPrefix}
 use Rattle.tk_status.specs.declared.Status.{Status}
 use Rattle.tk_status.specs.declared.Status.TheVariants as statuses
 use Rattle.tk_model.specs.Counts.{Rose}
-use Rattle.tk_model.specs.Records.{find, Rising}
-use Rattle.tk_model.specs.Entries.{changes_of, is_in_shard, is_legal}
+use Rattle.tk_model.specs.Records.{find, replay, Rising}
+use Rattle.tk_model.specs.Entries.{changes_of, is_in_shard, is_legal, shard_records}
 use Rattle.tk_model.specs.declared.record.Pair.{Pair}
 use Rattle.tk_model.specs.declared.record.Change.{Change}
 use Rattle.tk_model.specs.declared.record.Group.{Group}
 use Rattle.tk_model.specs.declared.record.Entry.{Entry}
 use Rattle.tk_model.proofs.RecordLaws.{entries_rising}
-use Rattle.tk_store.specs.Store.{First, StoreView, StoreConstants}
+use Rattle.tk_store.specs.Store.{First, StoreView, StoreConstants, HasRoom, PassesLimit, PassesLog}
 use Rattle.tk_core.specs.declared.frame.Frame.{Frame}
 use Rattle.tk_core.specs.Caller.{Caller, knows_broken}
 use Rattle.tk_core.specs.Covers.{Reads, store_of, store_lock, stripe_lock}
@@ -30,13 +30,19 @@ use Rattle.tk_locks.proofs.Facts.{prefix_length, noted_tail, marked_tail}
 use Rattle.tk_dbm.specs.declared.answer.Answer.{Answer}
 use Rattle.tk_dbm.specs.declared.visit.Part.{Part}
 use Rattle.tk_dbm.specs.declared.visit.Work.{Work}
+use Rattle.tk_dbm.specs.declared.visit.Work.TheVariants.{Count, Sync, Change as Changing}
+use Rattle.tk_dbm.specs.Room.{IsAfter, HasRoomAt, IsOver}
+use Rattle.tk_core.specs.Needs.{MayCommit}
+use Rattle.tk_model.proofs.Shards.{parts_reach}
+use Rattle.tk_store.specs.declared.error.StoreError.{StoreError}
+use Rattle.tk_store.specs.declared.error.StoreError.TheVariants as errors
 use Rattle.tk_dbm.specs.Setting.{Setting, setting_of, records_at, newest}
 use Rattle.tk_dbm.specs.Calls.{Stores, ByStatus, Failed, FoundBroken, IsSteady, is_system}
 use Rattle.tk_dbm.specs.Parts.{IsOut, GaveUp, MadeNothing, MadeAt, MayStop, MayVisit}
-use Rattle.tk_dbm.specs.Visiting.{stores_of, Climbs, AllUnbroken, HoldsMore, IsCovered, MayAsk, Suits, IsFit, AllFit, IsPrepared, IsDue, NoRoom, SteadyAt, Steady, VisitStores, Visits, Settled}
-use Rattle.tk_dbm.proofs.Changing.{rose_less}
-use Rattle.tk_dbm.proofs.Around.{noted_then, marked_then, mark_same, unknown_then, Turns, around}
-use Rattle.tk_dbm.proofs.Visits.{has_if, either, taken_back}
+use Rattle.tk_dbm.specs.Visiting.{stores_of, Climbs, AllUnbroken, HoldsMore, IsCovered, MayAsk, Suits, IsFit, AllFit, IsPrepared, IsDue, NoRoom, SteadyAt, Steady, VisitStores, Visits, Settled, TellsFullBy, OverBy, RoomBy, IsSum}
+use Rattle.tk_dbm.proofs.Changing.{rose_less, gave_up_done, gave_up_nothing, holds}
+use Rattle.tk_dbm.proofs.Around.{contains_next, newest_here, or_third, noted_then, marked_then, mark_same, unknown_then, Turns, around}
+use Rattle.tk_dbm.proofs.Visits.{Visited, by_then, own_alone, has_if, either, taken_back}
 
 -- what is left of what was with the pass when a store is given back that it didn't know as broken
 pub record Given (f : Frame) (i : ℕ) (now : Option ℕ) (k : ℕ) (x w : View) : Type 0 where
@@ -308,3 +314,163 @@ module _ {T : Type 0} (law : List Pair → Bool) (stands : T → First → List 
               (λ (r : ((z : ℕ) × (a.status ≡ statuses.System z) × (st ≡ statuses.System z) × (k.broken ≡ Some z) × (faults k.store ≡ faults h.store)) ⊎ ((a.status ≡ statuses.Success) × (st ≡ statuses.System (faults k.store)) × (k.broken ≡ Some (faults k.store)) × Rose (faults h.store) (faults k.store))).
               ⊎_elim (λ (c : (z : ℕ) × (a.status ≡ statuses.System z) × (st ≡ statuses.System z) × (k.broken ≡ Some z) × (faults k.store ≡ faults h.store)). subst (MayStop (λ size need limit. NoRoom s over room (i ∷ stores_of ps) x.caller.seen (E (map_after f m x.caller.seen)) size need limit)) (sym c.2) tt)
               (λ (c : (a.status ≡ statuses.Success) × (st ≡ statuses.System (faults k.store)) × (k.broken ≡ Some (faults k.store)) × Rose (faults h.store) (faults k.store)). subst (MayStop (λ size need limit. NoRoom s over room (i ∷ stores_of ps) x.caller.seen (E (map_after f m x.caller.seen)) size need limit)) (sym c.1) tt) r) turns
+
+-- ---- a call that ends at the first store
+
+pub may_visit : (f : Frame) (i : ℕ) (is : List ℕ) (v : Caller) → Climbs f (i ∷ is) v.held → 0 < v.allowance → MayVisit f i v
+may_visit f i is v c a = record { low = c.0; rising = c.1; weighs = omega arith }
+
+pub widened : (s : Setting) (p : Part) (ps : List Part) (v w : View) (st : Status) → Stores s (λ j. j == p.store) v st w → VisitStores s (p ∷ ps) v st w
+widened s p ps v w st t = record {
+  counts = t.counts;
+  marks = t.marks;
+  more = t.more;
+  found = t.found;
+  counts_are = t.counts_are;
+  marks_are = t.marks_are;
+  broke_is = t.broke_is;
+  met_is = t.met_is;
+  own = λ j h. ap (λ (b : Bool). b || has j (stores_of ps)) (t.own j h);
+  by_status = λ before steady. subst (λ (ms : List (ℕ × Option ℕ)). ByStatus s (t.counts ++ before) ms t.more t.found st) (append-nil t.marks)
+      (by_then s p.store t.counts before t.marks [] t.more t.found st (λ j h. eqb-true j p.store (t.own j (or_third (is_some (newest j t.counts)) (is_some (newest j t.marks)) _ (has j t.found) h))) t.by_status);
+}
+
+pub since_stores : (s : Setting) (p : Part) (ps : List Part) (q k : ℕ) (v x w : View) → p.seen ≡ Some q → q < k → Visited p.store None (Some k) k k v x w → VisitStores s (p ∷ ps) v (statuses.System k) w
+since_stores s p ps q k v x w seen rose t = record {
+  counts = (p.store, k) ∷ (p.store, k) ∷ [];
+  marks = (p.store, Some k) ∷ (p.store, None) ∷ [];
+  more = p.store ∷ [];
+  found = [];
+  counts_are = t.counts;
+  marks_are = t.marks;
+  broke_is = t.broke;
+  met_is = t.met;
+  own = λ j h. ap (λ (b : Bool). b || has j (stores_of ps)) (own_alone p.store j k k (Some k) None true false h);
+  by_status = λ before steady. record {
+    store = p.store;
+    broken = has_head p.store [];
+    before = q;
+    began = contains_next (p.store, q) (p.store, k) ((p.store, k) ∷ before) (contains_next (p.store, q) (p.store, k) before (subst (SteadyAt before p.store) seen steady.0).1);
+    ended = newest_here p.store k ((p.store, k) ∷ before);
+    risen = omega arith;
+    order = λ j less h. absurd (let e = only j h in omega arith);
+    kept = λ j h. subst (λ (z : ℕ). newest z ((p.store, Some k) ∷ (p.store, None) ∷ []) ≡ Some (Some k)) (sym (only j h)) (newest_here p.store (Some k) ((p.store, None) ∷ []));
+    none = refl;
+  };
+}
+  where
+    only : (j : ℕ) → has j (p.store ∷ []) ≡ true → j ≡ p.store
+    only j h = by_bool (j == p.store) (eqb-true j p.store) (λ differs. absurd (not_both (has j (p.store ∷ [])) h (ap (λ (z : Bool). z || false) differs)))
+
+own_still : (f : Frame) (m : List Pair) (v : Caller) → Still f m v.base v
+own_still f m v = record { records = λ k r. refl; groups = λ j low t. refl; hard = λ j low t. refl }
+
+-- with all stores that it needs a call may get its number
+pub may_number : (s : Setting) (E : List Pair → Entry) (v : Caller) → MayAsk s E [] v → v.live ≡ true → ((i : ℕ) → has (store_lock s.frame i) v.held ≡ true → has i v.out ≡ true) → AllUnbroken s.frame v → MayCommit s.frame (λ m. s.law m ≡ true) s.first (E (map_after s.frame s.first v.base)) v
+may_number s E v ask live out unbroken = let covered = ask.covers v.base (own_still s.frame s.first v) v.held ((λ l t. t), (λ i h. absurd (cc (h)))) in record {
+  live = live;
+  allowance = ask.allowance;
+  fits = ask.legal v.base (own_still s.frame s.first v);
+  keeps = ask.keeps v.base (own_still s.frame s.first v);
+  reads = covered.reads;
+  writes = covered.writes;
+  out = λ i low c. let h = covered.stores i low c in (out i h, unbroken i h);
+}
+
+pub none_left : (ps : List Part) → length ps ≡ 0 → ps ≡ []
+none_left [] e = refl
+none_left (p ∷ ps) e = absurd (omega arith)
+
+-- no store is left to be full
+pub relabelled : (s : Setting) (over over' : ℕ → List Entry → Entry → ℕ → ℕ → ℕ → Type 0) (room room' : ℕ → List Entry → Entry → Type 0) (E : List Pair → Entry) (v : View) (a : Answer) (w : View) → Visits s over room E [] v a w → Visits s over' room' E [] v a w
+relabelled s over over' room room' E v a w t = record {
+  stores = t.stores;
+  base = t.base;
+  risen = t.risen;
+  made = t.made;
+  ended = t.ended;
+  rooms = λ n e i h. absurd (cc (h));
+  not_made = λ e. let z = t.not_made e in (z.0, z.1, z.2, stops a.status z.3);
+}
+  where
+    stops : (st : Status) → MayStop (λ size need limit. NoRoom s over room [] w.caller.seen (E (map_after s.frame s.first w.caller.seen)) size need limit) st → MayStop (λ size need limit. NoRoom s over' room' [] w.caller.seen (E (map_after s.frame s.first w.caller.seen)) size need limit) st
+    stops statuses.Success h = h
+    stops (statuses.System q) h = tt
+    stops statuses.NotImplemented h = h
+    stops statuses.Precondition h = h
+    stops statuses.InvalidArgument h = h
+    stops statuses.NotFound h = h
+    stops statuses.Infeasible h = h
+    stops statuses.Duplication h = h
+    stops (statuses.Broken q) h = tt
+    stops statuses.NoMemory h = tt
+    stops (statuses.Full size need limit) h = absurd (let z = h.member in cc (z))
+    stops statuses.Limit h = h
+    stops (statuses.TooLong q) h = h
+
+pub sum_more : (work : Work) (sum own rest mid r : ℕ) → IsSum work sum own mid → IsSum work mid rest r → IsSum work sum (own + rest) r
+sum_more Count sum own rest mid r a b = omega arith
+sum_more (Sync hard) sum own rest mid r a b = tt
+sum_more Changing sum own rest mid r a b = tt
+
+module _ {T : Type 0} (law : List Pair → Bool) (stands : T → First → List Group → ℕ → Type 0) (store_view : T → StoreView) (constants : T → StoreConstants) (faults : T → ℕ) (g : Ground T) (writable : Bool)
+    (p : Part) (v u : View) (h : Home T) (visit : MayVisit g.frame p.store v.caller) (got : TakesStore law stands store_view constants faults g p.store v h u) where
+  abbrev s2 : Setting
+  s2 = setting_of law store_view faults g writable
+
+  abbrev m2 : List Pair
+  m2 = records_in g.frame.order store_view g.start
+
+  pub stopped_at : (over : ℕ → List Entry → Entry → ℕ → ℕ → ℕ → Type 0) (room : ℕ → List Entry → Entry → Type 0) (E : List Pair → Entry) (ps : List Part) (a : Answer) (st : Status) (h2 : Home T) (w : View) → a ≡ record { status = st; number = None } → v.caller.breaking ≡ [] → (gave : GaveUp law stands store_view constants faults g p.store u h2 w)
+      → VisitStores s2 (p ∷ ps) v st w → ((k : ℕ) → st ≡ statuses.System k → Risen g.frame (count_at faults g.start) k) → MayStop (λ size need limit. NoRoom s2 over room (stores_of (p ∷ ps)) gave.0 (E (map_after g.frame m2 gave.0)) size need limit) st → Visits s2 over room E (p ∷ ps) v a w
+  stopped_at over room E ps a st h2 w is calm gave stores risen cause = let t = gave_up_done law stands store_view constants faults g writable p.store v u h visit got h2 w calm gave in
+      subst (λ (z : Answer). Visits s2 over room E (p ∷ ps) v z w) (sym is) (record {
+        stores = stores;
+        base = t.base ∙ sym t.seen;
+        risen = risen;
+        made = λ n q. absurd (cc (q));
+        ended = λ n q. absurd (cc (q));
+        rooms = λ n q. absurd (cc (q));
+        not_made = λ _. (
+          gave_up_nothing law stands store_view constants faults g writable p.store v u h visit got h2 w calm gave,
+          subst (λ (es : List Entry). Still g.frame m2 es v.caller) (sym t.seen) (still_back law stands store_view constants faults g writable p v u h got gave.0 gave.1.still),
+          (let l = prefix_length u.caller.base gave.0 gave.1.base in let b = base_back law stands store_view constants faults g writable p v u h got in let e = ap (λ (es : List Entry). length es) t.seen in omega arith),
+          subst (λ (es : List Entry). MayStop (λ size need limit. NoRoom s2 over room (stores_of (p ∷ ps)) es (E (map_after g.frame m2 es)) size need limit) st) (sym t.seen) cause,
+        );
+      })
+
+  -- the store, as it was taken, may be so after this history
+  is_after : h.broken ≡ None → (log : List Entry) → Still g.frame m2 log u.caller → IsAfter stands store_view constants g p.store log h.store
+  is_after whole log st = let at = holds law stands store_view constants faults g writable p.store v u h visit got in
+      subst (λ (q : List Group × ℕ). good_of stands store_view constants g p.store h.store q.0 q.1) (λ t. (st.groups p.store visit.low at t, st.hard p.store visit.low at t)) (got.3 whole)
+
+  pub room_by : (work : Work) (E : List Pair → Entry) {U : Type 0} (r : Result U StoreError) (z : U) → r ≡ Ok z → TellsFullBy work (constants h.store) (store_view h.store) p.changes r → h.broken ≡ None → IsFit s2 work E v p → (log : List Entry) → Still g.frame m2 log u.caller → s2.tells p.store ≡ true
+      → RoomBy stands store_view constants g work p.store log (E (map_after g.frame m2 log))
+  room_by work E {U} r z is full whole fits log st tells = go work (subst (TellsFullBy work (constants h.store) (store_view h.store) p.changes) is full)
+    where
+      room : HasRoom (constants h.store) (store_view h.store) p.changes → HasRoomAt stands store_view constants g log (E (map_after g.frame m2 log)) p.store
+      room r = (h.store, is_after whole log st, subst (HasRoom (constants h.store) (store_view h.store)) (fits.told log (still_back law stands store_view constants faults g writable p v u h got log st) tells) r)
+
+      go : (k : Work) → TellsFullBy k (constants h.store) (store_view h.store) p.changes (Ok z) → RoomBy stands store_view constants g k p.store log (E (map_after g.frame m2 log))
+      go Count t = tt
+      go (Sync true) t = room t
+      go (Sync false) t = tt
+      go Changing t = room t
+
+  pub over_by : (work : Work) (E : List Pair → Entry) {U : Type 0} (r : Result U StoreError) (size need limit : ℕ) → r ≡ Err (errors.Full size need limit) → TellsFullBy work (constants h.store) (store_view h.store) p.changes r → h.broken ≡ None → IsFit s2 work E v p → (log : List Entry) → Still g.frame m2 log u.caller → s2.tells p.store ≡ true
+      → OverBy stands store_view constants g work p.store log (E (map_after g.frame m2 log)) size need limit
+  over_by work E {U} r size need limit is full whole fits log st tells = go work (subst (TellsFullBy work (constants h.store) (store_view h.store) p.changes) is full)
+    where
+      over : (PassesLimit (constants h.store) (store_view h.store) p.changes size need limit ⊎ PassesLog (constants h.store).log (store_view h.store).log_size p.changes size need limit) → IsOver stands store_view constants g log (E (map_after g.frame m2 log)) p.store size need limit
+      over r = (h.store, is_after whole log st, subst (λ (cs : List Change). PassesLimit (constants h.store) (store_view h.store) cs size need limit ⊎ PassesLog (constants h.store).log (store_view h.store).log_size cs size need limit) (fits.told log (still_back law stands store_view constants faults g writable p v u h got log st) tells) r)
+
+      go : (k : Work) → TellsFullBy {U = U} k (constants h.store) (store_view h.store) p.changes (Err (errors.Full size need limit)) → OverBy stands store_view constants g k p.store log (E (map_after g.frame m2 log)) size need limit
+      go Count t = absurd t
+      go (Sync true) t = over t
+      go (Sync false) t = absurd t
+      go Changing t = over t
+
+  -- the records of the store are the same after this history
+  pub same_shard : (log : List Entry) → Still g.frame m2 log u.caller → Rising g.frame.order m2 → shard_records (shard g.frame p.store) (map_after g.frame m2 u.caller.base) ≡ shard_records (shard g.frame p.store) (map_after g.frame m2 log)
+  same_shard log st rising = let at = holds law stands store_view constants faults g writable p.store v u h visit got in
+      sym (parts_reach g.frame.order (shard g.frame p.store) g.frame.base m2 u.caller.base rising) ∙ ap (λ (gs : List Group). replay g.frame.order gs (shard_records (shard g.frame p.store) m2)) (st.groups p.store visit.low at) ∙ parts_reach g.frame.order (shard g.frame p.store) g.frame.base m2 log rising

@@ -41,7 +41,7 @@ pub record Visited (i : ℕ) (was now : Option ℕ) (n k : ℕ) (v x w : View) :
   pub allowance : w.caller.allowance ≡ x.caller.allowance
   pub base : w.caller.base ≡ x.caller.base
 
-without_new : (l : ℕ) (xs : List ℕ) → AllBelow l xs → without l (l ∷ xs) ≡ xs
+pub without_new : (l : ℕ) (xs : List ℕ) → AllBelow l xs → without l (l ∷ xs) ≡ xs
 without_new l xs below = ap (λ (z : Bool). cond z (without l xs) (l ∷ without l xs)) (eq-eqb l l refl) ∙ none xs below
   where
     none : (xs : List ℕ) → AllBelow l xs → without l xs ≡ xs
@@ -92,7 +92,7 @@ not_same : (i j : ℕ) → (j == i) ≡ false → (i == j) ≡ false
 not_same i j h = by_bool (i == j) (λ t. absurd (not_both (j == i) (eq-eqb j i (sym (eqb-true i j t))) h)) (λ n. n)
 
 -- lists of the store i alone are of no other store
-own_alone : (i j : ℕ) (a b : ℕ) (c d : Option ℕ) (p q : Bool) → (is_some (newest j ((i, a) ∷ (i, b) ∷ [])) || is_some (newest j ((i, c) ∷ (i, d) ∷ [])) || has j (cond p (i ∷ []) []) || has j (cond q (i ∷ []) [])) ≡ true → (j == i) ≡ true
+pub own_alone : (i j : ℕ) (a b : ℕ) (c d : Option ℕ) (p q : Bool) → (is_some (newest j ((i, a) ∷ (i, b) ∷ [])) || is_some (newest j ((i, c) ∷ (i, d) ∷ [])) || has j (cond p (i ∷ []) []) || has j (cond q (i ∷ []) [])) ≡ true → (j == i) ≡ true
 own_alone i j a b c d p q h = by_bool (j == i) (λ t. t) (λ differs. absurd (not_both (is_some (newest j ((i, a) ∷ (i, b) ∷ [])) || is_some (newest j ((i, c) ∷ (i, d) ∷ [])) || has j (cond p (i ∷ []) []) || has j (cond q (i ∷ []) [])) h
     (ap (λ (z : Bool). is_some (if z then Some a else (if z then Some b else None)) || is_some (if z then Some c else (if z then Some d else None)) || has j (cond p (i ∷ []) []) || has j (cond q (i ∷ []) [])) (not_same i j differs)
     ∙ ap (λ (z : Bool). z || has j (cond q (i ∷ []) [])) (hasnt p differs) ∙ hasnt q differs)))

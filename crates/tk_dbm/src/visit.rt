@@ -52,6 +52,17 @@ pub(crate) struct Part {
     pub(crate) seen: Option<u64>,
 }
 
+/// Whether the count is above the one that was seen.
+fn has_risen(seen: Option<u64>, faults: u64) -> bool
+    ensures risen { result ≡ true → (q : ℕ) × (seen ≡ Some q) × (q < faults) }
+    ensures same { result ≡ false → (q : ℕ) → seen ≡ Some q → faults ≤ q }
+{
+    match seen {
+        Some(seen) => seen < faults,
+        None => false,
+    }
+}
+
 impl<S: SeqStore> Dbm<S> {
     /// What is done in the store before the number. The answer is the sum of the records, where they are counted.
     fn prepare(
@@ -301,7 +312,7 @@ impl<S: SeqStore> Dbm<S> {
         if let Some(faults) = home.broken {
             return (self.refuse(pass, i, home, Status::Broken { faults }), 0);
         }
-        if part.seen.is_some_and(|seen| seen < home.store.faults()) {
+        if has_risen(part.seen, home.store.faults()) {
             return (self.fail_since(pass, i, home), 0);
         }
         match self.prepare(pass, work, part, &mut home, sum) {
