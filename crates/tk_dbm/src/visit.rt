@@ -325,8 +325,7 @@ impl<S: SeqStore> Dbm<S> {
             }
             Err(StoreError::Fault) => (self.fail(pass, i, home), 0),
             Err(StoreError::Full { size, need, limit }) => {
-                let status = Status::Full { size, need, limit };
-                (self.refuse(pass, i, home, status), 0)
+                (self.refuse(pass, i, home, Status::Full { size, need, limit }), 0)
             }
             Err(StoreError::NoMemory) => (self.refuse(pass, i, home, Status::NoMemory), 0),
         }
