@@ -1,41 +1,31 @@
 -- What a call knows of stores that it visits one inside another.
-use Rattle.std.proofs.Common.{◌≡◌, ◌≢◌, ◌⊎◌, inl, inr, ◌+◌, ◌<◌, ◌≤◌, ◌^◌, ◌==◌, ◌||◌, ◌&&◌, not, ℕ, zero, suc, Bool, true, false, cond, List, [], ◌∷◌, ◌++◌, length, length-append, take, filter, Option, Some, None, Result, Ok, Err, OnOk, IfOk, is_some, if◌then◌else◌, refl, sym, ap, ◌∙◌, subst, ⊎_elim, arith, eqb-true, eq-eqb}
-use Rattle.std.specs.Prelude.{Contains, slice_index_or}
-use Rattle.std.proofs.lemmas.List.{append_assoc, append-nil}
-use mathlib.Core.List.{IsPrefix}
+use Rattle.std.proofs.Common.{◌≡◌, ◌≢◌, ◌⊎◌, inl, inr, ◌<◌, ◌≤◌, ◌^◌, ◌==◌, ◌||◌, ℕ, zero, suc, Bool, true, false, cond, List, [], ◌∷◌, ◌++◌, length, take, Option, Some, None, is_some, if◌then◌else◌, refl, sym, ap, ◌∙◌, subst, ⊎_elim, arith, eq-eqb}
+use Rattle.std.specs.Prelude.{Contains}
+use Rattle.std.proofs.lemmas.List.{append_assoc}
 use Rattle.tk_status.specs.declared.Status.{Status}
 use Rattle.tk_status.specs.declared.Status.TheVariants as statuses
 use Rattle.tk_model.specs.Counts.{Rose}
-use Rattle.tk_model.specs.Records.{find, Rising}
-use Rattle.tk_model.specs.Entries.{changes_of, is_in_shard, is_legal}
 use Rattle.tk_model.specs.declared.record.Pair.{Pair}
-use Rattle.tk_model.specs.declared.record.Change.{Change}
 use Rattle.tk_model.specs.declared.record.Group.{Group}
 use Rattle.tk_model.specs.declared.record.Entry.{Entry}
-use Rattle.tk_model.proofs.RecordLaws.{entries_rising}
 use Rattle.tk_store.specs.Store.{First, StoreView, StoreConstants}
 use Rattle.tk_core.specs.declared.frame.Frame.{Frame}
-use Rattle.tk_core.specs.Caller.{Caller, knows_broken}
-use Rattle.tk_core.specs.Covers.{Reads, store_of, store_lock, stripe_lock}
-use Rattle.tk_core.specs.Lists.{has, without, AllBelow}
-use Rattle.tk_core.specs.Moves.{put_back, gave_store}
-use Rattle.tk_core.specs.Rule.{IsLawful, Still, known, map_after, shard, groups_of, hard_groups}
+use Rattle.tk_core.specs.Caller.{knows_broken}
+use Rattle.tk_core.specs.Covers.{store_lock}
+use Rattle.tk_core.specs.Lists.{has, AllBelow}
+use Rattle.tk_core.specs.Rule.{Still, map_after}
 use Rattle.tk_core.proofs.Facts.{by_test, by_bool, has_cons, has_head, has_tail, not_both}
-use Rattle.tk_locks.specs.declared.home.Home.{Home}
-use Rattle.tk_locks.specs.View.{View, noted, marked, with_caller, with_count, with_mark}
-use Rattle.tk_locks.specs.Rule.{Ground, Risen, records_in, good_of, next_fits, count_at}
-use Rattle.tk_locks.specs.Steps.{GaveStore, Committed, MayMark}
-use Rattle.tk_locks.specs.Tells.{TakesStore, MayMake, Makes}
-use Rattle.tk_locks.proofs.Facts.{prefix_length, noted_tail, marked_tail}
-use Rattle.tk_dbm.specs.declared.answer.Answer.{Answer}
+use Rattle.tk_locks.specs.View.{View, noted, marked}
+use Rattle.tk_locks.specs.Rule.{Ground, records_in}
+use Rattle.tk_locks.specs.Steps.{MayMark}
+use Rattle.tk_locks.specs.Tells.{MayMake, Makes}
+use Rattle.tk_locks.proofs.Facts.{prefix_length}
 use Rattle.tk_dbm.specs.declared.visit.Part.{Part}
-use Rattle.tk_dbm.specs.declared.visit.Work.{Work}
 use Rattle.tk_dbm.specs.Setting.{Setting, setting_of, records_at, newest}
-use Rattle.tk_dbm.specs.Calls.{Stores, ByStatus, Failed, FoundBroken, IsSteady, is_system}
-use Rattle.tk_dbm.specs.Parts.{IsOut, GaveUp, MadeNothing, MadeAt, MayStop, MayVisit}
-use Rattle.tk_dbm.specs.Visiting.{stores_of, Climbs, AllUnbroken, HoldsMore, IsCovered, MayAsk, Suits, IsFit, AllFit, IsPrepared, IsDue, NoRoom, SteadyAt, Steady, VisitStores, Visits, Settled}
-use Rattle.tk_dbm.proofs.Changing.{kept_at, take_front, rose_less}
-use Rattle.tk_dbm.proofs.Visits.{has_if, either, taken_back}
+use Rattle.tk_dbm.specs.Calls.{ByStatus, Failed, is_system}
+use Rattle.tk_dbm.specs.Parts.{MadeAt}
+use Rattle.tk_dbm.specs.Visiting.{stores_of, Climbs, SteadyAt, Steady, VisitStores, Visits}
+use Rattle.tk_dbm.proofs.Changing.{kept_at, take_front}
 
 -- ---- places in lists of counts
 

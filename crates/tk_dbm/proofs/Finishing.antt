@@ -1,11 +1,10 @@
 -- What becomes of a store that is out when the call's part is made there.
-use Rattle.std.proofs.Common.{◌≡◌, ◌≢◌, ◌+◌, ◌<◌, ◌≤◌, ◌&&◌, ℕ, Bool, true, false, List, [], ◌∷◌, ◌++◌, length, length-append, filter, Option, Some, None, Result, Ok, Err, OnOk, is_some, if◌then◌else◌, refl, sym, ap, ◌∙◌, subst, arith}
+use Rattle.std.proofs.Common.{◌≡◌, ◌<◌, ◌≤◌, ◌&&◌, ℕ, Bool, true, false, List, [], ◌∷◌, ◌++◌, length, length-append, filter, Option, None, Result, Ok, Err, OnOk, is_some, if◌then◌else◌, refl, sym, ap, ◌∙◌, subst, arith}
 use Rattle.tk_model.specs.Entries.{changes_of, is_in_shard}
 use Rattle.tk_model.specs.declared.record.Pair.{Pair}
 use Rattle.tk_model.specs.declared.record.Group.{Group}
 use Rattle.tk_model.specs.declared.record.Change.{Change}
 use Rattle.tk_model.specs.declared.record.Entry.{Entry}
-use Rattle.tk_model.specs.declared.record.Entry.TheVariants as entries
 use Rattle.tk_store.specs.declared.error.StoreError.{StoreError}
 use Rattle.tk_store.specs.Store.{First, StoreView, StoreConstants, groups_made_by, Keeps, floor_after}
 use Rattle.tk_core.specs.Rule.{map_after, shard, groups_of, hard_groups, is_hard}
@@ -72,15 +71,15 @@ module _ {T : Type 0} (law : List Pair → Bool) (stands : T → First → List 
   hardened_out y b whole unmarked due (Err z) more floor same_constant same_told ajar later = tt
   hardened_out y b whole unmarked due (Ok u) more floor same_constant same_told ajar later =
       let none : groups_made_by (constants x) number [] ≡ [] = no_mark (constants x) number (ap (λ (z : StoreConstants). z.marks) (same_constants law stands store_view constants g fresh i due.low x _ _ due.good_then) ∙ unmarked i (at_start law stands store_view constants g fresh i due.low).0 (at_start law stands store_view constants g fresh i due.low).1) in record {
-    low = due.low;
-    holds = due.holds;
-    owed = λ _. subst (GoodAt y) (sym due.base) (hardens law stands store_view constants g fresh i due.low x y due.log due.entry number due.good_then (ap is_hard due.suits.1)
-        (ap (λ (e : Entry). filter (is_in_shard (shard g.frame i)) (changes_of g.frame.order (map_after g.frame m due.log) e)) due.suits.1) none more same_constant same_told ajar);
-    stays = subst (MayMark g.frame (count_at faults g.start) i v) (sym whole) due.stays;
-    counted = let q = due.counted in omega arith;
-    follows = λ _ w. let h = due.follows (ap (λ (z : StoreConstants). z.writable) (sym same_constant) ∙ w) in let l = ap (λ (es : List Entry). length es) due.base in let n = length-append due.log (due.entry ∷ []) in
-        let q = floor ∙ ap (floor_after (store_view x).floor) none in omega arith;
-  }
+        low = due.low;
+        holds = due.holds;
+        owed = λ _. subst (GoodAt y) (sym due.base) (hardens law stands store_view constants g fresh i due.low x y due.log due.entry number due.good_then (ap is_hard due.suits.1)
+            (ap (λ (e : Entry). filter (is_in_shard (shard g.frame i)) (changes_of g.frame.order (map_after g.frame m due.log) e)) due.suits.1) none more same_constant same_told ajar);
+        stays = subst (MayMark g.frame (count_at faults g.start) i v) (sym whole) due.stays;
+        counted = let q = due.counted in omega arith;
+        follows = λ _ w. let h = due.follows (ap (λ (z : StoreConstants). z.writable) (sym same_constant) ∙ w) in let l = ap (λ (es : List Entry). length es) due.base in let n = length-append due.log (due.entry ∷ []) in
+            let q = floor ∙ ap (floor_after (store_view x).floor) none in omega arith;
+      }
 
   pub is_ready : IsDue law stands store_view constants faults g reserved Changing i number v x → IsReady law stands store_view constants faults g reserved i number v x
   is_ready due = record {

@@ -176,10 +176,10 @@ module _ {T : Type 0} (law : List Pair → Bool) (stands : T → First → List 
   hardens x y log e number good is_sync none unmarked more same_constant same_told ajar = record {
     stands_now = λ tells first b. let was = sym same_told ∙ tells in let s = good.stands_now was first b in
         let same = groups_stay f m log e i none in (
-      length (groups_of f m log i),
-      (let a = ap (λ (es : List Entry). length (groups_of f m es i)) (synced_hard log e is_sync) in let b = ap (λ (gs : List Group). length gs) same in omega arith),
-      subst (λ (gs : List Group). stands y first gs (length (groups_of f m log i))) (sym same) (all first (groups_of f m log i) s.0 s.2),
-    );
+          length (groups_of f m log i),
+          (let a = ap (λ (es : List Entry). length (groups_of f m es i)) (synced_hard log e is_sync) in let b = ap (λ (gs : List Group). length gs) same in omega arith),
+          subst (λ (gs : List Group). stands y first gs (length (groups_of f m log i))) (sym same) (all first (groups_of f m log i) s.0 s.2),
+        );
     whole = let w = good.whole in (w.0, w.1, length w.1, all w.0 w.1 w.2 w.3);
     natured = λ h at. let t = good.natured h at in (same_constant ∙ t.0, same_told ∙ t.1);
     unclosed = ajar;

@@ -1,32 +1,30 @@
 -- How a call that visits several stores goes on from one to the next, and what it leaves.
-use Rattle.std.proofs.Common.{◌≡◌, ◌≢◌, ◌⊎◌, inl, inr, ◌+◌, ◌<◌, ◌≤◌, ◌^◌, ◌==◌, ◌||◌, ◌&&◌, not, ℕ, zero, suc, Bool, true, false, cond, List, [], ◌∷◌, ◌++◌, length, length-append, take, filter, Option, Some, None, Result, Ok, Err, OnOk, IfOk, is_some, if◌then◌else◌, refl, sym, ap, ◌∙◌, subst, ⊎_elim, arith, eqb-true, eq-eqb}
-use Rattle.std.specs.Prelude.{Contains, slice_index_or}
-use Rattle.std.proofs.lemmas.List.{append_assoc, append-nil}
+use Rattle.std.proofs.Common.{◌≡◌, ◌≢◌, ◌⊎◌, inl, inr, ◌+◌, ◌<◌, ◌≤◌, ◌==◌, ◌||◌, ◌&&◌, not, ℕ, Bool, true, false, cond, List, [], ◌∷◌, ◌++◌, length, length-append, take, Option, Some, None, Result, Ok, Err, is_some, refl, sym, ap, ◌∙◌, subst, ⊎_elim, arith, eqb-true}
+use Rattle.std.proofs.lemmas.List.{append-nil}
 use mathlib.Core.List.{IsPrefix}
 use Rattle.tk_status.specs.declared.Status.{Status}
 use Rattle.tk_status.specs.declared.Status.TheVariants as statuses
 use Rattle.tk_model.specs.Counts.{Rose}
 use Rattle.tk_model.specs.Records.{find, replay, Rising}
-use Rattle.tk_model.specs.Entries.{changes_of, is_in_shard, is_legal, shard_records}
+use Rattle.tk_model.specs.Entries.{shard_records}
 use Rattle.tk_model.specs.declared.record.Pair.{Pair}
 use Rattle.tk_model.specs.declared.record.Change.{Change}
 use Rattle.tk_model.specs.declared.record.Group.{Group}
 use Rattle.tk_model.specs.declared.record.Entry.{Entry}
-use Rattle.tk_model.proofs.RecordLaws.{entries_rising}
 use Rattle.tk_store.specs.Store.{First, StoreView, StoreConstants, HasRoom, PassesLimit, PassesLog}
 use Rattle.tk_core.specs.declared.frame.Frame.{Frame}
 use Rattle.tk_core.specs.Caller.{Caller, knows_broken}
 use Rattle.tk_core.specs.Covers.{Reads, store_of, store_lock, stripe_lock}
-use Rattle.tk_core.specs.Lists.{has, without, AllBelow}
+use Rattle.tk_core.specs.Lists.{has, without}
 use Rattle.tk_core.specs.Moves.{put_back, gave_store}
 use Rattle.tk_core.specs.Rule.{IsLawful, Still, known, map_after, shard, groups_of, hard_groups}
-use Rattle.tk_core.proofs.Facts.{by_test, by_bool, has_cons, has_head, has_tail, not_both}
+use Rattle.tk_core.proofs.Facts.{by_bool, has_cons, has_head, has_tail, not_both}
 use Rattle.tk_locks.specs.declared.home.Home.{Home}
 use Rattle.tk_locks.specs.View.{View, noted, marked, with_caller, with_count, with_mark}
-use Rattle.tk_locks.specs.Rule.{Ground, Risen, records_in, good_of, next_fits, count_at}
-use Rattle.tk_locks.specs.Steps.{GaveStore, Committed, MayMark}
-use Rattle.tk_locks.specs.Tells.{TakesStore, MayMake, Makes}
-use Rattle.tk_locks.proofs.Facts.{prefix_length, noted_tail, marked_tail}
+use Rattle.tk_locks.specs.Rule.{Ground, Risen, records_in, good_of, count_at}
+use Rattle.tk_locks.specs.Steps.{GaveStore}
+use Rattle.tk_locks.specs.Tells.{TakesStore}
+use Rattle.tk_locks.proofs.Facts.{prefix_length, noted_tail}
 use Rattle.tk_dbm.specs.declared.answer.Answer.{Answer}
 use Rattle.tk_dbm.specs.declared.visit.Part.{Part}
 use Rattle.tk_dbm.specs.declared.visit.Work.{Work}
@@ -37,9 +35,9 @@ use Rattle.tk_model.proofs.Shards.{parts_reach}
 use Rattle.tk_store.specs.declared.error.StoreError.{StoreError}
 use Rattle.tk_store.specs.declared.error.StoreError.TheVariants as errors
 use Rattle.tk_dbm.specs.Setting.{Setting, setting_of, records_at, newest}
-use Rattle.tk_dbm.specs.Calls.{Stores, ByStatus, Failed, FoundBroken, IsSteady, is_system}
+use Rattle.tk_dbm.specs.Calls.{Stores, ByStatus, is_system}
 use Rattle.tk_dbm.specs.Parts.{IsOut, GaveUp, MadeNothing, MadeAt, MayStop, MayVisit}
-use Rattle.tk_dbm.specs.Visiting.{stores_of, Climbs, AllUnbroken, HoldsMore, IsCovered, MayAsk, Suits, IsFit, AllFit, IsPrepared, IsDue, NoRoom, SteadyAt, Steady, VisitStores, Visits, Settled, TellsFullBy, OverBy, RoomBy, IsSum}
+use Rattle.tk_dbm.specs.Visiting.{stores_of, Climbs, AllUnbroken, HoldsMore, MayAsk, IsFit, AllFit, IsPrepared, IsDue, NoRoom, SteadyAt, VisitStores, Visits, Settled, TellsFullBy, OverBy, RoomBy, IsSum}
 use Rattle.tk_dbm.proofs.Changing.{rose_less, gave_up_done, gave_up_nothing, holds}
 use Rattle.tk_dbm.proofs.Around.{contains_next, newest_here, or_third, noted_then, marked_then, mark_same, unknown_then, Turns, around}
 use Rattle.tk_dbm.proofs.Visits.{Visited, by_then, own_alone, has_if, either, taken_back}

@@ -166,14 +166,7 @@ impl<S: SeqStore> Dbm<S> {
     }
 
     /// How the store is to be given back, after those behind it were visited.
-    fn settle(
-        &self,
-        pass: &Pass,
-        work: Work,
-        i: u32,
-        home: &mut Home<S>,
-        answer: Answer,
-    ) -> Status
+    fn settle(&self, pass: &Pass, work: Work, i: u32, home: &mut Home<S>, answer: Answer) -> Status
         requires fresh { Fresh S.lawful S.stands S.store_view S.constants (its self.now).frame
             (its self.now).start }
         requires whole { (home.old.broken ≡ None) × (marked i (view pass.now).marks ≡ None) }
@@ -325,7 +318,10 @@ impl<S: SeqStore> Dbm<S> {
             }
             Err(StoreError::Fault) => (self.fail(pass, i, home), 0),
             Err(StoreError::Full { size, need, limit }) => {
-                (self.refuse(pass, i, home, Status::Full { size, need, limit }), 0)
+                (
+                    self.refuse(pass, i, home, Status::Full { size, need, limit }),
+                    0,
+                )
             }
             Err(StoreError::NoMemory) => (self.refuse(pass, i, home, Status::NoMemory), 0),
         }

@@ -1,4 +1,4 @@
-use Rattle.std.proofs.Common.{◌≡◌, ◌≢◌, ◌<◌, ◌∷◌, ⊎_elim, ℕ, true, List, Option, Some, None, Result, Ok, Err, refl, sym, ap, ◌∙◌, subst, arith}
+use Rattle.std.proofs.Common.{◌≡◌, ◌≢◌, ◌<◌, ◌∷◌, ⊎_elim, ℕ, true, List, Option, Some, Result, Ok, Err, refl, sym, ap, ◌∙◌, subst, arith}
 use Rattle.tk_status.specs.declared.Status.TheVariants as statuses
 use Rattle.tk_model.specs.Counts.{Rose}
 use Rattle.tk_model.specs.declared.record.Pair.{Pair}
@@ -15,7 +15,6 @@ use Rattle.tk_dbm.specs.declared.visit.Part.{Part}
 use Rattle.tk_dbm.specs.Dbm.{its, setting, view, writes}
 use Rattle.tk_dbm.specs.Setting.{records_at}
 use Rattle.tk_core.specs.Rule.{map_after, shard}
-use Rattle.tk_core.specs.Covers.{IsFrame}
 use Rattle.tk_model.specs.Entries.{shard_records}
 use Rattle.tk_model.specs.declared.record.Entry.{Entry}
 use Rattle.std.specs.Prelude.{length, take}
@@ -131,14 +130,34 @@ returns-in-Ok-clause-sum g t c n is told_each = let z = done g.S.SeqStore.lawful
     (subst (λ (ps : List Pair). IsSum c.args.work c.args.sum (length ps) c.in-Ok.sum) same mine) rest))
 
 pub visit-sum-requires : goal.visit-sum-requires
-visit-sum-requires g t c κs within = ((let d = c.decreases in let e = c.in-Some.ensures.cases.1 in omega arith),
-  (within.0,
-  (within.1.0,
-  (within.1.1,
-  (record { own = c.take_store-home.ensures.own; held = refl; breaking = ap (λ (z : View). z.caller.breaking) c.take_store-home.ensures.step.2 ∙ c.requires.own.breaking; fresh = c.requires.own.fresh; writable = c.requires.own.writable },
-  (climbs_more g.S.SeqStore.lawful g.S.SeqStore.stands g.S.SeqStore.store_view g.S.SeqStore.constants g.S.SeqStore.fault_count (its c.args.self.now) (writes c.args.self.now) c.in-Some.part.now (view c.args.pass.now) (view_of c.take_store-home.new.pass) c.take_store-home.result c.take_store-home.ensures.step (stores_of c.in-Some.rest.now) (subst (λ (ps : List Part). Climbs (its c.args.self.now).frame (stores_of ps) (view c.args.pass.now).caller.held) c.in-Some.ensures.cases.0 c.requires.climbs),
-  (unbroken_more g.S.SeqStore.lawful g.S.SeqStore.stands g.S.SeqStore.store_view g.S.SeqStore.constants g.S.SeqStore.fault_count (its c.args.self.now) (writes c.args.self.now) c.in-Some.part.now (view c.args.pass.now) (view_of c.take_store-home.new.pass) c.take_store-home.result c.take_store-home.ensures.step c.in_default-broken.is c.requires.unbroken,
-  (ask_more g.S.SeqStore.lawful g.S.SeqStore.stands g.S.SeqStore.store_view g.S.SeqStore.constants g.S.SeqStore.fault_count (its c.args.self.now) (writes c.args.self.now) c.in-Some.part.now (view c.args.pass.now) (view_of c.take_store-home.new.pass) c.take_store-home.result c.take_store-home.ensures.step g.J.Asked.entry (stores_of c.in-Some.rest.now) (subst (λ (ps : List Part). MayAsk (setting g.S.SeqStore.lawful g.S.SeqStore.store_view g.S.SeqStore.fault_count c.args.self.now) g.J.Asked.entry (stores_of ps) (view c.args.pass.now).caller) c.in-Some.ensures.cases.0 c.requires.ask),
-  (fit_more g.S.SeqStore.lawful g.S.SeqStore.stands g.S.SeqStore.store_view g.S.SeqStore.constants g.S.SeqStore.fault_count (its c.args.self.now) (writes c.args.self.now) c.in-Some.part.now (view c.args.pass.now) (view_of c.take_store-home.new.pass) c.take_store-home.result c.take_store-home.ensures.step c.args.work g.J.Asked.entry c.in-Some.rest.now (above (its c.args.self.now).frame c.in-Some.part.now.store (stores_of c.in-Some.rest.now) (view c.args.pass.now).caller.held (subst (λ (ps : List Part). Climbs (its c.args.self.now).frame (stores_of ps) (view c.args.pass.now).caller.held) c.in-Some.ensures.cases.0 c.requires.climbs)) (subst (λ (ps : List Part). AllFit (setting g.S.SeqStore.lawful g.S.SeqStore.store_view g.S.SeqStore.fault_count c.args.self.now) c.args.work g.J.Asked.entry (view c.args.pass.now) ps) c.in-Some.ensures.cases.0 c.requires.fit).1,
-  (c.requires.may,
-  c.requires.marks))))))))))
+visit-sum-requires g t c κs within = (
+  (let d = c.decreases in let e = c.in-Some.ensures.cases.1 in omega arith),
+  (
+    within.0,
+    (
+      within.1.0,
+      (
+        within.1.1,
+        (
+          record { own = c.take_store-home.ensures.own; held = refl; breaking = ap (λ (z : View). z.caller.breaking) c.take_store-home.ensures.step.2 ∙ c.requires.own.breaking; fresh = c.requires.own.fresh; writable = c.requires.own.writable },
+          (
+            climbs_more g.S.SeqStore.lawful g.S.SeqStore.stands g.S.SeqStore.store_view g.S.SeqStore.constants g.S.SeqStore.fault_count (its c.args.self.now) (writes c.args.self.now) c.in-Some.part.now (view c.args.pass.now) (view_of c.take_store-home.new.pass) c.take_store-home.result c.take_store-home.ensures.step (stores_of c.in-Some.rest.now) (subst (λ (ps : List Part). Climbs (its c.args.self.now).frame (stores_of ps) (view c.args.pass.now).caller.held) c.in-Some.ensures.cases.0 c.requires.climbs),
+            (
+              unbroken_more g.S.SeqStore.lawful g.S.SeqStore.stands g.S.SeqStore.store_view g.S.SeqStore.constants g.S.SeqStore.fault_count (its c.args.self.now) (writes c.args.self.now) c.in-Some.part.now (view c.args.pass.now) (view_of c.take_store-home.new.pass) c.take_store-home.result c.take_store-home.ensures.step c.in_default-broken.is c.requires.unbroken,
+              (
+                ask_more g.S.SeqStore.lawful g.S.SeqStore.stands g.S.SeqStore.store_view g.S.SeqStore.constants g.S.SeqStore.fault_count (its c.args.self.now) (writes c.args.self.now) c.in-Some.part.now (view c.args.pass.now) (view_of c.take_store-home.new.pass) c.take_store-home.result c.take_store-home.ensures.step g.J.Asked.entry (stores_of c.in-Some.rest.now) (subst (λ (ps : List Part). MayAsk (setting g.S.SeqStore.lawful g.S.SeqStore.store_view g.S.SeqStore.fault_count c.args.self.now) g.J.Asked.entry (stores_of ps) (view c.args.pass.now).caller) c.in-Some.ensures.cases.0 c.requires.ask),
+                (
+                  fit_more g.S.SeqStore.lawful g.S.SeqStore.stands g.S.SeqStore.store_view g.S.SeqStore.constants g.S.SeqStore.fault_count (its c.args.self.now) (writes c.args.self.now) c.in-Some.part.now (view c.args.pass.now) (view_of c.take_store-home.new.pass) c.take_store-home.result c.take_store-home.ensures.step c.args.work g.J.Asked.entry c.in-Some.rest.now (above (its c.args.self.now).frame c.in-Some.part.now.store (stores_of c.in-Some.rest.now) (view c.args.pass.now).caller.held (subst (λ (ps : List Part). Climbs (its c.args.self.now).frame (stores_of ps) (view c.args.pass.now).caller.held) c.in-Some.ensures.cases.0 c.requires.climbs)) (subst (λ (ps : List Part). AllFit (setting g.S.SeqStore.lawful g.S.SeqStore.store_view g.S.SeqStore.fault_count c.args.self.now) c.args.work g.J.Asked.entry (view c.args.pass.now) ps) c.in-Some.ensures.cases.0 c.requires.fit).1,
+                  (
+                    c.requires.may,
+                    c.requires.marks,
+                  ),
+                ),
+              ),
+            ),
+          ),
+        ),
+      ),
+    ),
+  ),
+)

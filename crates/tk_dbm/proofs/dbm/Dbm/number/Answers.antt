@@ -1,9 +1,7 @@
 use Rattle.tk_model.proofs.RecordLaws.{entries_rising}
-use Rattle.tk_locks.specs.Calls.{view as view_of}
 use Rattle.tk_core.specs.Rule.{map_after}
 use Rattle.tk_dbm.specs.Dbm.{its, setting, view, writes}
 use Rattle.tk_dbm.proofs.Around.{numbered}
-use Rattle.tk_dbm.proofs.Visiting.{leveled}
 use Rattle.tk_dbm.proofs.dbm.Dbm.number.Goals as goal
 
 pub returns-clause-visits : goal.returns-clause-visits
