@@ -37,7 +37,7 @@ use Rattle.tk_dbm.specs.Room.{IsAfter, HasRoomAt, AllHaveRoom, IsFull, changes_o
 use Rattle.tk_dbm.proofs.OneKeys.{MayOne, may_commit, all_here, none_there}
 use Rattle.tk_dbm.proofs.Visits.{Beside, beside_self, Visited, SaysNothing, visited, was_broken, has_failed, stayed_whole}
 
-take_front : {A : Type 0} (xs : List A) (a : A) (n : ℕ) → length xs ≡ n → take n (xs ++ a ∷ []) ≡ xs
+pub take_front : {A : Type 0} (xs : List A) (a : A) (n : ℕ) → length xs ≡ n → take n (xs ++ a ∷ []) ≡ xs
 take_front [] a zero e = refl
 take_front [] a (suc n) e = absurd (cc (e))
 take_front (x ∷ xs) a zero e = absurd (cc (e))
@@ -165,10 +165,10 @@ module _ {T : Type 0} (law : List Pair → Bool) (stands : T → First → List 
   pub begun_is : begun i ≤ noted i u.counts
   begun_is = let e = noted_is in let b = got.6 in omega arith
 
-  holds_more : (l : ℕ) → has l v.caller.held ≡ true → has l u.caller.held ≡ true
+  pub holds_more : (l : ℕ) → has l v.caller.held ≡ true → has l u.caller.held ≡ true
   holds_more l t = ap (has l) held ∙ has_tail l (store_lock f i) v.caller.held t
 
-  reads_more : (k : List ℕ) → Reads f v.caller.held k → Reads f u.caller.held k
+  pub reads_more : (k : List ℕ) → Reads f v.caller.held k → Reads f u.caller.held k
   reads_more k r = ⊎_elim (λ (t : has (stripe_lock f k) v.caller.held ≡ true). inl (holds_more (stripe_lock f k) t)) (λ (t : has (store_lock f (store_of f k)) v.caller.held ≡ true). inr (holds_more (store_lock f (store_of f k)) t)) r
 
   -- what was known is known
@@ -178,7 +178,7 @@ module _ {T : Type 0} (law : List Pair → Bool) (stands : T → First → List 
   known_then : (log : List Entry) → Meets f is_lawful m u.caller log → (k : List ℕ) → Reads f v.caller.held k → known f m v.caller k ≡ find k (map_after f m log)
   known_then log meets k r = known_still k r ∙ meets.still.records k (reads_more k r)
 
-  front : (log : List Entry) → Meets f is_lawful m u.caller log → IsPrefix v.caller.seen log
+  pub front : (log : List Entry) → Meets f is_lawful m u.caller log → IsPrefix v.caller.seen log
   front log meets = subst (λ (z : List Entry). IsPrefix z log) (ap (λ (z : View). z.caller.seen) got.2) meets.seen
 
   -- ---- given back, whatever it is given as

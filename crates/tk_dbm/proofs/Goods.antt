@@ -15,7 +15,8 @@ use Rattle.tk_store.specs.Store.{First, StoreView, StoreConstants, groups_made_b
 use Rattle.tk_core.specs.declared.frame.Frame.{Frame}
 use Rattle.tk_core.specs.Covers.{store_of}
 use Rattle.tk_core.specs.Rule.{map_after, shard, groups_of, hard_groups, is_hard}
-use Rattle.tk_core.proofs.Calls.{synced_snoc}
+use Rattle.tk_core.proofs.Calls.{synced_snoc, synced_hard, groups_stay}
+use Rattle.std.proofs.lemmas.List.{append-nil}
 use Rattle.tk_locks.specs.declared.home.Home.{Home}
 use Rattle.tk_locks.specs.Made.{Fresh}
 use Rattle.tk_locks.specs.Rule.{Ground, Began, good_of, next_fits, records_in}
@@ -124,6 +125,14 @@ module _ {T : Type 0} (law : List Pair → Bool) (stands : T → First → List 
         go None t e h = absurd (cc (t))
         go (Some q) t e h = subst (λ (z : Option (List ℕ)). IfOk r (Gives z old new)) e h
 
+    -- so many records it tells
+    pub counted_in : (x : T) (log : List Entry) (n : ℕ) → Good x (groups_of f m log i) n → tells_at store_view g.start i ≡ true → (k : ℕ) → (IsWhole stands x → IfSome (store_view x).map (λ q. k ≡ length q)) → k ≡ length (shard_records (shard f i) (map_after f m log))
+    counted_in x log n good tells k is = go (store_view x).map (tells_still x (groups_of f m log i) n good ∙ tells) (map_in x log n good) (is (whole x (groups_of f m log i) n good))
+      where
+        go : (o : Option (List Pair)) → is_some o ≡ true → IfSome o (λ q. q ≡ shard_records (shard f i) (map_after f m log)) → IfSome o (λ q. k ≡ length q) → k ≡ length (shard_records (shard f i) (map_after f m log))
+        go None t e h = absurd (cc (t))
+        go (Some q) t e h = h ∙ ap (λ (z : List Pair). length z) e
+
   -- a group was made: where the store tells its records, that of the call
   pub grows : (x y : T) (log : List Entry) (e : Entry) (number : ℕ) (cs : List Change) → Good x (groups_of f m log i) (hard_groups f m log i) → number ≡ f.base + length log → cs ≢ [] → is_hard e ≡ false
       → (is_some (store_view x).map ≡ true → cs ≡ filter (is_in_shard (shard f i)) (changes_of f.order (map_after f m log) e))
@@ -143,6 +152,41 @@ module _ {T : Type 0} (law : List Pair → Bool) (stands : T → First → List 
     natured = λ h at. let t = good.natured h at in (same_constant ∙ t.0, same_told ∙ t.1);
     unclosed = ajar;
   }
+
+  -- nothing of the store was changed by the call
+  pub goes_on : (x y : T) (log : List Entry) (e : Entry) → Good x (groups_of f m log i) (hard_groups f m log i) → is_hard e ≡ false → (is_some (store_view x).map ≡ true → filter (is_in_shard (shard f i)) (changes_of f.order (map_after f m log) e) ≡ [])
+      → Keeps stands x y → constants y ≡ constants x → (store_view y).map ≡ (store_view x).map → (store_view y).closed ≡ (store_view x).closed → Good y (groups_of f m (log ++ e ∷ []) i) (hard_groups f m (log ++ e ∷ []) i)
+  unfolding good_of
+  goes_on x y log e good soft none keeps same_constant same_map same_closed = record {
+    stands_now = λ tells first b. let was = ap is_some (sym same_map) ∙ tells in let s = good.stands_now was first b in (
+      s.0,
+      subst (λ (es : List Entry). length (groups_of f m es i) ≤ s.0) (sym (synced_snoc log e soft)) s.1,
+      subst (λ (gs : List Group). stands y first gs s.0) (sym (groups_stay f m log e i (none was))) (keeps first (groups_of f m log i) s.0 s.2),
+    );
+    whole = let w = good.whole in (w.0, w.1, w.2, keeps w.0 w.1 w.2 w.3);
+    natured = λ h at. let t = good.natured h at in (same_constant ∙ t.0, ap is_some same_map ∙ t.1);
+    unclosed = same_closed ∙ good.unclosed;
+  }
+
+  -- a hard synchronisation made all of it safe
+  pub hardens : (x y : T) (log : List Entry) (e : Entry) (number : ℕ) → Good x (groups_of f m log i) (hard_groups f m log i) → is_hard e ≡ true → filter (is_in_shard (shard f i)) (changes_of f.order (map_after f m log) e) ≡ [] → groups_made_by (constants x) number [] ≡ []
+      → ((first : First) (since : List Group) (hard : ℕ) → stands x first since hard → stands y first (since ++ groups_made_by (constants x) number []) (length (since ++ groups_made_by (constants x) number [])))
+      → constants y ≡ constants x → is_some (store_view y).map ≡ is_some (store_view x).map → (store_view y).closed ≡ false → Good y (groups_of f m (log ++ e ∷ []) i) (hard_groups f m (log ++ e ∷ []) i)
+  unfolding good_of
+  hardens x y log e number good is_sync none unmarked more same_constant same_told ajar = record {
+    stands_now = λ tells first b. let was = sym same_told ∙ tells in let s = good.stands_now was first b in
+        let same = groups_stay f m log e i none in (
+          length (groups_of f m log i),
+          (let a = ap (λ (es : List Entry). length (groups_of f m es i)) (synced_hard log e is_sync) in let b = ap (λ (gs : List Group). length gs) same in omega arith),
+          subst (λ (gs : List Group). stands y first gs (length (groups_of f m log i))) (sym same) (all first (groups_of f m log i) s.0 s.2),
+        );
+    whole = let w = good.whole in (w.0, w.1, length w.1, all w.0 w.1 w.2 w.3);
+    natured = λ h at. let t = good.natured h at in (same_constant ∙ t.0, same_told ∙ t.1);
+    unclosed = ajar;
+  }
+    where
+      all : (first : First) (since : List Group) (hard : ℕ) → stands x first since hard → stands y first since (length since)
+      all first since hard st = subst (λ (gs : List Group). stands y first gs (length gs)) (ap (λ (gs : List Group). since ++ gs) unmarked ∙ append-nil since) (more first since hard st)
 
   pub next_stays : (x y : T) (n : ℕ) → constants y ≡ constants x → (store_view y).floor ≡ (store_view x).floor → next_fits store_view constants g x n → next_fits store_view constants g y n
   next_stays x y n same_constant same_floor fits w = let h = fits (sym (ap (λ (z : StoreConstants). z.writable) same_constant) ∙ w) in omega arith

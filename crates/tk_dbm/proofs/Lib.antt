@@ -3,6 +3,9 @@ pub mod OneKeys
 pub mod Visits
 pub mod Changing
 pub mod Reserving
+pub mod Finishing
+pub mod Around
+pub mod Visiting
 pub mod Ends
 pub mod Closing
 pub mod Fates

@@ -41,7 +41,7 @@ pub record Visited (i : ℕ) (was now : Option ℕ) (n k : ℕ) (v x w : View) :
   pub allowance : w.caller.allowance ≡ x.caller.allowance
   pub base : w.caller.base ≡ x.caller.base
 
-without_new : (l : ℕ) (xs : List ℕ) → AllBelow l xs → without l (l ∷ xs) ≡ xs
+pub without_new : (l : ℕ) (xs : List ℕ) → AllBelow l xs → without l (l ∷ xs) ≡ xs
 without_new l xs below = ap (λ (z : Bool). cond z (without l xs) (l ∷ without l xs)) (eq-eqb l l refl) ∙ none xs below
   where
     none : (xs : List ℕ) → AllBelow l xs → without l xs ≡ xs
@@ -52,7 +52,7 @@ without_new l xs below = ap (λ (z : Bool). cond z (without l xs) (l ∷ without
         other true differ e = absurd (differ refl)
         other false differ e = ap (λ z. x ∷ z) e
 
-either : (b : Bool) (i : ℕ) (xs : List ℕ) → cond b (i ∷ xs) xs ≡ cond b (i ∷ []) [] ++ xs
+pub either : (b : Bool) (i : ℕ) (xs : List ℕ) → cond b (i ∷ xs) xs ≡ cond b (i ∷ []) [] ++ xs
 either true i xs = refl
 either false i xs = refl
 
@@ -60,7 +60,7 @@ pub taken_back : (b : Bool) (i : ℕ) → without i (cond b (i ∷ []) []) ≡ [
 taken_back true i = ap (λ (z : Bool). cond z (without i []) (i ∷ without i [])) (eq-eqb i i refl)
 taken_back false i = refl
 
-has_if : (b : Bool) (i : ℕ) → has i (cond b (i ∷ []) []) ≡ b
+pub has_if : (b : Bool) (i : ℕ) → has i (cond b (i ∷ []) []) ≡ b
 has_if true i = has_head i []
 has_if false i = refl
 
@@ -92,7 +92,7 @@ not_same : (i j : ℕ) → (j == i) ≡ false → (i == j) ≡ false
 not_same i j h = by_bool (i == j) (λ t. absurd (not_both (j == i) (eq-eqb j i (sym (eqb-true i j t))) h)) (λ n. n)
 
 -- lists of the store i alone are of no other store
-own_alone : (i j : ℕ) (a b : ℕ) (c d : Option ℕ) (p q : Bool) → (is_some (newest j ((i, a) ∷ (i, b) ∷ [])) || is_some (newest j ((i, c) ∷ (i, d) ∷ [])) || has j (cond p (i ∷ []) []) || has j (cond q (i ∷ []) [])) ≡ true → (j == i) ≡ true
+pub own_alone : (i j : ℕ) (a b : ℕ) (c d : Option ℕ) (p q : Bool) → (is_some (newest j ((i, a) ∷ (i, b) ∷ [])) || is_some (newest j ((i, c) ∷ (i, d) ∷ [])) || has j (cond p (i ∷ []) []) || has j (cond q (i ∷ []) [])) ≡ true → (j == i) ≡ true
 own_alone i j a b c d p q h = by_bool (j == i) (λ t. t) (λ differs. absurd (not_both (is_some (newest j ((i, a) ∷ (i, b) ∷ [])) || is_some (newest j ((i, c) ∷ (i, d) ∷ [])) || has j (cond p (i ∷ []) []) || has j (cond q (i ∷ []) [])) h
     (ap (λ (z : Bool). is_some (if z then Some a else (if z then Some b else None)) || is_some (if z then Some c else (if z then Some d else None)) || has j (cond p (i ∷ []) []) || has j (cond q (i ∷ []) [])) (not_same i j differs)
     ∙ ap (λ (z : Bool). z || has j (cond q (i ∷ []) [])) (hasnt p differs) ∙ hasnt q differs)))
@@ -127,7 +127,7 @@ module _ (s : Setting) (i : ℕ) where
   abbrev own : ℕ → Bool
   own j = j == i
 
-  says_nothing : (counts : List (ℕ × ℕ)) (marks : List (ℕ × Option ℕ)) (more found : List ℕ) (st : Status) → SaysNothing st → (more ≡ []) × (found ≡ []) → ByStatus s counts marks more found st
+  pub says_nothing : (counts : List (ℕ × ℕ)) (marks : List (ℕ × Option ℕ)) (more found : List ℕ) (st : Status) → SaysNothing st → (more ≡ []) × (found ≡ []) → ByStatus s counts marks more found st
   says_nothing counts marks more found statuses.Success z h = h
   says_nothing counts marks more found (statuses.System faults) z h = absurd z
   says_nothing counts marks more found statuses.NotImplemented z h = h
@@ -218,7 +218,7 @@ module _ (s : Setting) (i : ℕ) where
   parts_go x true rest more other e = refl
   parts_go x false rest more other e = e
 
-  newest_parts : {A : Type 0} (j : ℕ) (ps qs : List (ℕ × A)) → is_some (newest j (ps ++ qs)) ≡ (is_some (newest j ps) || is_some (newest j qs))
+  pub newest_parts : {A : Type 0} (j : ℕ) (ps qs : List (ℕ × A)) → is_some (newest j (ps ++ qs)) ≡ (is_some (newest j ps) || is_some (newest j qs))
   newest_parts j [] qs = refl
   newest_parts j (p ∷ ps) qs = parts_go p.1 (p.0 == j) (newest j ps) (newest j (ps ++ qs)) (newest j qs) (newest_parts j ps qs)
 
@@ -233,7 +233,7 @@ module _ (s : Setting) (i : ℕ) where
   append_more : {A : Type 0} (w v x : List A) (a b : List A) → x ≡ a ++ w → w ≡ b ++ v → x ≡ (a ++ b) ++ v
   append_more w v x a b p q = p ∙ ap (λ z. a ++ z) q ∙ sym (append_assoc a b v)
 
-  by_then : (counts counts' : List (ℕ × ℕ)) (marks marks' : List (ℕ × Option ℕ)) (more found : List ℕ) (st : Status) → ((j : ℕ) → has j more ≡ true → j ≡ i)
+  pub by_then : (counts counts' : List (ℕ × ℕ)) (marks marks' : List (ℕ × Option ℕ)) (more found : List ℕ) (st : Status) → ((j : ℕ) → has j more ≡ true → j ≡ i)
       → ByStatus s counts marks more found st → ByStatus s (counts ++ counts') (marks ++ marks') more found st
   by_then counts counts' marks marks' more found statuses.Success only h = h
   by_then counts counts' marks marks' more found (statuses.System faults) only h = record {

@@ -4,6 +4,7 @@ pub mod Room
 pub mod OneKey
 pub mod Parts
 pub mod Passes
+pub mod Visiting
 pub mod Making
 pub mod Fates
 pub mod Ending

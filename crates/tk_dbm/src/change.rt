@@ -1,5 +1,5 @@
 //! A change of one key whose stripe is held and whose value is known.
-ghost use Rattle.std.specs.Prelude.{◌≡◌, ◌≢◌, ◌≤◌, [], true, Some, None, ℕ, OnOk};
+ghost use Rattle.std.specs.Prelude.{◌≡◌, ◌≢◌, ◌⊎◌, ◌≤◌, [], true, Some, None, ℕ, OnOk};
 ghost use Rattle.tk_model.specs.Records.{IsClearAlone};
 ghost use Rattle.tk_store.specs.Store.{AllFitWithin, HasCause, OkOrFault, UnlessFault, TellsFull};
 ghost use Rattle.tk_locks.specs.Calls.{IsPassOf};
@@ -45,7 +45,7 @@ impl<S: SeqStore> Dbm<S> {
     }
 
     /// Reserves the group in the store while it is out.
-    fn reserve(
+    pub(crate) fn reserve(
         &self,
         pass: &Pass,
         i: u32,
@@ -55,7 +55,7 @@ impl<S: SeqStore> Dbm<S> {
         requires fresh { Fresh S.lawful S.stands S.store_view S.constants (its self.now).frame
             (its self.now).start }
         requires writable { IsWritable S.constants (its self.now) (writes self.now)
-            × (writes self.now ≡ true) }
+            × ((writes self.now ≡ true) ⊎ (changes.now ≡ [])) }
         requires whole { home.old.broken ≡ None }
         requires out { IsOut S.lawful S.stands S.store_view S.constants S.fault_count
             (its self.now) i (view pass.now) home.old }
@@ -76,7 +76,13 @@ impl<S: SeqStore> Dbm<S> {
     }
 
     /// Makes the reserved group in the store while it is out.
-    fn apply(&self, pass: &Pass, i: u32, home: &mut Home<S>, number: u64) -> Result<(), StoreError>
+    pub(crate) fn apply(
+        &self,
+        pass: &Pass,
+        i: u32,
+        home: &mut Home<S>,
+        number: u64,
+    ) -> Result<(), StoreError>
         requires fresh { Fresh S.lawful S.stands S.store_view S.constants (its self.now).frame
             (its self.now).start }
         requires whole { home.old.broken ≡ None }

@@ -12,6 +12,7 @@ mod passes;
 mod picked;
 mod process;
 mod read;
+mod visit;
 
 pub use answer::Answer;
 pub use close::Closed;

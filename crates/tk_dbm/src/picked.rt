@@ -32,3 +32,18 @@ impl<J: Picked> Entered<J> {
 impl<J: Picked> Call for Entered<J> {
     ghost entry = { λ _. J.entry };
 }
+
+/// What a call does on given records, known to proofs alone.
+pub trait Asked {
+    ghost use Rattle.std.specs.Prelude.{List};
+    ghost use Rattle.tk_model.specs.declared.record.Pair.{Pair};
+    ghost use Rattle.tk_model.specs.declared.record.Entry.{Entry};
+
+    ghost entry: { List Pair → Entry };
+}
+
+impl Asked for Brand {
+    ghost use Rattle.tk_model.specs.declared.record.Entry.TheVariants.{Clear};
+
+    ghost entry = { λ _. Clear };
+}
