@@ -123,7 +123,7 @@ fn write_rest<D: Disk>(alloc: Global, disk: &mut D, pairs: &[Pair]) -> Result<()
 }
 
 /// Writes the whole file of a generation and of records to an empty disk, the records in their order. All but the header
-/// is durable before that is written, and it before the call returns. An opening accepts the file where the keys rise.
+/// is durable before that is written, and it before the call returns. Nothing is asked of the order of keys.
 pub fn write_skip<D: Disk>(
     alloc: Global,
     disk: &mut D,
