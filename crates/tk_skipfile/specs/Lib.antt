@@ -1,2 +1,4 @@
 pub mod HeaderLast
+pub mod Opening
 pub mod SkipText
+pub mod Walking

@@ -31,6 +31,7 @@ pub(crate) fn height_of(levels: u8, i: u64) -> u8
     requires { levels ≤ 32 }
     ensures value { result ≡ height levels i }
     ensures bound { result < 32 }
+    ensures few { result ≤ levels }
 {
     for level in 1..levels {
         if i % step_of(level) != 0 {

@@ -2,10 +2,13 @@
 #![tactic(auto)]
 
 mod header;
+mod here;
 mod levels;
+mod links;
 mod pieces;
 mod places;
 mod record;
+mod walker;
 mod write;
 
 pub use header::write_header;
