@@ -13,7 +13,7 @@ use Rattle.tk_locks.specs.Made.{Fresh}
 use Rattle.tk_locks.specs.Steps.{MayMark}
 use Rattle.tk_locks.specs.Rule.{Ground, count_at, good_of, next_fits, records_in}
 use Rattle.tk_locks.specs.View.{View}
-use Rattle.tk_dbm.specs.declared.visit.Work.TheVariants.{Count, Sync, Change as Changing}
+use Rattle.tk_dbm.specs.declared.visit.Work.TheVariants.{Count, Sync, Change as Changing, Keep as Keeping}
 use Rattle.tk_dbm.specs.Parts.{IsOut, IsReady}
 use Rattle.tk_dbm.specs.Visiting.{IsDue, IsUnmarked}
 use Rattle.tk_dbm.proofs.Goods.{at_start, same_constants, goes_on, hardens}
@@ -44,6 +44,16 @@ module _ {T : Type 0} (law : List Pair → Bool) (stands : T → First → List 
 
   pub counted_out : (b : Option ℕ) → b ≡ None → IsDue law stands store_view constants faults g reserved Count i number v x → Out (record { store = x; broken = b })
   counted_out b whole due = let t = passed_out x b due.log due.entry due.changes whole due.low due.stays due.base due.good_then due.suits.0 due.suits.1 due.told (λ first since hard st. st) refl refl due.follows in record {
+    low = due.low;
+    holds = due.holds;
+    owed = λ _. t.0;
+    stays = t.1;
+    counted = due.counted;
+    follows = λ _. t.2;
+  }
+
+  pub kept_out : (b : Option ℕ) → b ≡ None → IsDue law stands store_view constants faults g reserved Keeping i number v x → Out (record { store = x; broken = b })
+  kept_out b whole due = let t = passed_out x b due.log due.entry due.changes whole due.low due.stays due.base due.good_then due.suits.0 due.suits.1 due.told (λ first since hard st. st) refl refl due.follows in record {
     low = due.low;
     holds = due.holds;
     owed = λ _. t.0;

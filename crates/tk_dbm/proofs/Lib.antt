@@ -12,3 +12,4 @@ pub mod Fates
 pub mod Looks
 pub mod Making
 pub mod One
+pub mod AllKeys

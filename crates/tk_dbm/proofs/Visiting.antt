@@ -28,8 +28,8 @@ use Rattle.tk_locks.proofs.Facts.{prefix_length, noted_tail}
 use Rattle.tk_dbm.specs.declared.answer.Answer.{Answer}
 use Rattle.tk_dbm.specs.declared.visit.Part.{Part}
 use Rattle.tk_dbm.specs.declared.visit.Work.{Work}
-use Rattle.tk_dbm.specs.declared.visit.Work.TheVariants.{Count, Sync, Change as Changing}
-use Rattle.tk_dbm.specs.Room.{IsAfter, HasRoomAt, IsOver}
+use Rattle.tk_dbm.specs.declared.visit.Work.TheVariants.{Count, Sync, Change as Changing, Keep as Keeping}
+use Rattle.tk_dbm.specs.Room.{IsAfter, changes_on, HasRoomAt, IsOver}
 use Rattle.tk_core.specs.Needs.{MayCommit}
 use Rattle.tk_model.proofs.Shards.{parts_reach}
 use Rattle.tk_store.specs.declared.error.StoreError.{StoreError}
@@ -37,7 +37,7 @@ use Rattle.tk_store.specs.declared.error.StoreError.TheVariants as errors
 use Rattle.tk_dbm.specs.Setting.{Setting, setting_of, records_at, newest}
 use Rattle.tk_dbm.specs.Calls.{Stores, ByStatus, is_system}
 use Rattle.tk_dbm.specs.Parts.{IsOut, GaveUp, MadeNothing, MadeAt, MayStop, MayVisit}
-use Rattle.tk_dbm.specs.Visiting.{stores_of, Climbs, AllUnbroken, HoldsMore, MayAsk, IsFit, AllFit, IsPrepared, IsDue, NoRoom, SteadyAt, VisitStores, Visits, Settled, TellsFullBy, OverBy, RoomBy, IsSum}
+use Rattle.tk_dbm.specs.Visiting.{stores_of, Climbs, AllUnbroken, HoldsMore, MayAsk, IsFit, AllFit, IsPrepared, IsDue, NoRoom, SteadyAt, VisitStores, Visits, Settled, TellsFullBy, OverBy, RoomBy, IsSum, work_at}
 use Rattle.tk_dbm.proofs.Changing.{rose_less, gave_up_done, gave_up_nothing, holds}
 use Rattle.tk_dbm.proofs.Around.{contains_next, newest_here, or_third, noted_then, marked_then, mark_same, unknown_then, Turns, around}
 use Rattle.tk_dbm.proofs.Visits.{Visited, by_then, own_alone, has_if, either, taken_back}
@@ -211,7 +211,7 @@ module _ {T : Type 0} (law : List Pair → Bool) (stands : T → First → List 
     long_is n is = let t = nested.made n is in let p = ap (λ (es : List Entry). length es) t.0.seen in let q = length-append (take n x.caller.seen) (E (records_at s x.caller n) ∷ []) in let l = t.0.place in omega arith
 
     pub due_out : (reserved : T → List Change → Type 0) (y : T) (b : Option ℕ) (n number : ℕ) → a.number ≡ Some n → number ≡ g.frame.base + n → b ≡ None → marked i u.marks ≡ None → IsOut law stands store_view constants faults g i u (record { store = y; broken = b }) → is_some (store_view y).map ≡ s.tells i
-        → IsFit s work E v p → IsPrepared reserved work p.changes y → IsDue law stands store_view constants faults g reserved work i number x y
+        → IsFit s work E v p → IsPrepared reserved (work_at work p.changes) p.changes y → IsDue law stands store_view constants faults g reserved (work_at work p.changes) i number x y
     due_out reserved y b n number is number_is whole unmarked out same_told fits prepared = let t = nested.made n is in record {
       low = out.low;
       holds = holds_still out.holds;
@@ -410,6 +410,14 @@ pub sum_more : (work : Work) (sum own rest mid r : ℕ) → IsSum work sum own m
 sum_more Count sum own rest mid r a b = omega arith
 sum_more (Sync hard) sum own rest mid r a b = tt
 sum_more Changing sum own rest mid r a b = tt
+sum_more Keeping sum own rest mid r a b = tt
+
+-- what is counted in a store is what the work counts
+pub sum_at : (work : Work) (cs : List Change) (sum own mid : ℕ) → IsSum (work_at work cs) sum own mid → IsSum work sum own mid
+sum_at Count cs sum own mid h = h
+sum_at (Sync hard) cs sum own mid h = tt
+sum_at Changing cs sum own mid h = tt
+sum_at Keeping cs sum own mid h = tt
 
 module _ {T : Type 0} (law : List Pair → Bool) (stands : T → First → List Group → ℕ → Type 0) (store_view : T → StoreView) (constants : T → StoreConstants) (faults : T → ℕ) (g : Ground T) (writable : Bool)
     (p : Part) (v u : View) (h : Home T) (visit : MayVisit g.frame p.store v.caller) (got : TakesStore law stands store_view constants faults g p.store v h u) where
@@ -442,31 +450,45 @@ module _ {T : Type 0} (law : List Pair → Bool) (stands : T → First → List 
   is_after whole log st = let at = holds law stands store_view constants faults g writable p.store v u h visit got in
       subst (λ (q : List Group × ℕ). good_of stands store_view constants g p.store h.store q.0 q.1) (λ t. (st.groups p.store visit.low at t, st.hard p.store visit.low at t)) (got.3 whole)
 
-  pub room_by : (work : Work) (E : List Pair → Entry) {U : Type 0} (r : Result U StoreError) (z : U) → r ≡ Ok z → TellsFullBy work (constants h.store) (store_view h.store) p.changes r → h.broken ≡ None → IsFit s2 work E v p → (log : List Entry) → Still g.frame m2 log u.caller → s2.tells p.store ≡ true
+  pub room_by : (work : Work) (E : List Pair → Entry) {U : Type 0} (r : Result U StoreError) (z : U) → r ≡ Ok z → TellsFullBy (work_at work p.changes) (constants h.store) (store_view h.store) p.changes r → h.broken ≡ None → IsFit s2 work E v p → (log : List Entry) → Still g.frame m2 log u.caller → s2.tells p.store ≡ true
       → RoomBy stands store_view constants g work p.store log (E (map_after g.frame m2 log))
-  room_by work E {U} r z is full whole fits log st tells = go work (subst (TellsFullBy work (constants h.store) (store_view h.store) p.changes) is full)
+  room_by work E {U} r z is full whole fits log st tells = go work p.changes told_here (subst (TellsFullBy (work_at work p.changes) (constants h.store) (store_view h.store) p.changes) is full)
     where
-      room : HasRoom (constants h.store) (store_view h.store) p.changes → HasRoomAt stands store_view constants g log (E (map_after g.frame m2 log)) p.store
-      room r = (h.store, is_after whole log st, subst (HasRoom (constants h.store) (store_view h.store)) (fits.told log (still_back law stands store_view constants faults g writable p v u h got log st) tells) r)
+      told_here : p.changes ≡ changes_on stands store_view constants g log (E (map_after g.frame m2 log)) p.store
+      told_here = fits.told log (still_back law stands store_view constants faults g writable p v u h got log st) tells
 
-      go : (k : Work) → TellsFullBy k (constants h.store) (store_view h.store) p.changes (Ok z) → RoomBy stands store_view constants g k p.store log (E (map_after g.frame m2 log))
-      go Count t = tt
-      go (Sync true) t = room t
-      go (Sync false) t = tt
-      go Changing t = room t
+      room : (cs : List Change) → cs ≡ changes_on stands store_view constants g log (E (map_after g.frame m2 log)) p.store → HasRoom (constants h.store) (store_view h.store) cs → HasRoomAt stands store_view constants g log (E (map_after g.frame m2 log)) p.store
+      room cs told r = (h.store, is_after whole log st, subst (HasRoom (constants h.store) (store_view h.store)) told r)
 
-  pub over_by : (work : Work) (E : List Pair → Entry) {U : Type 0} (r : Result U StoreError) (size need limit : ℕ) → r ≡ Err (errors.Full size need limit) → TellsFullBy work (constants h.store) (store_view h.store) p.changes r → h.broken ≡ None → IsFit s2 work E v p → (log : List Entry) → Still g.frame m2 log u.caller → s2.tells p.store ≡ true
+      go : (k : Work) (cs : List Change) → cs ≡ changes_on stands store_view constants g log (E (map_after g.frame m2 log)) p.store → TellsFullBy (work_at k cs) (constants h.store) (store_view h.store) cs (Ok z) → RoomBy stands store_view constants g k p.store log (E (map_after g.frame m2 log))
+      go Count cs told t = tt
+      go (Sync true) cs told t = room cs told t
+      go (Sync false) cs told t = tt
+      go Changing [] told t = λ any. absurd (any (sym told))
+      go Changing (c ∷ cs) told t = λ any. room (c ∷ cs) told t
+      go Keeping cs told t = tt
+
+  pub over_by : (work : Work) (E : List Pair → Entry) {U : Type 0} (r : Result U StoreError) (size need limit : ℕ) → r ≡ Err (errors.Full size need limit) → TellsFullBy (work_at work p.changes) (constants h.store) (store_view h.store) p.changes r → h.broken ≡ None → IsFit s2 work E v p → (log : List Entry) → Still g.frame m2 log u.caller → s2.tells p.store ≡ true
       → OverBy stands store_view constants g work p.store log (E (map_after g.frame m2 log)) size need limit
-  over_by work E {U} r size need limit is full whole fits log st tells = go work (subst (TellsFullBy work (constants h.store) (store_view h.store) p.changes) is full)
+  over_by work E {U} r size need limit is full whole fits log st tells = go work p.changes told_here (subst (TellsFullBy (work_at work p.changes) (constants h.store) (store_view h.store) p.changes) is full)
     where
-      over : (PassesLimit (constants h.store) (store_view h.store) p.changes size need limit ⊎ PassesLog (constants h.store).log (store_view h.store).log_size p.changes size need limit) → IsOver stands store_view constants g log (E (map_after g.frame m2 log)) p.store size need limit
-      over r = (h.store, is_after whole log st, subst (λ (cs : List Change). PassesLimit (constants h.store) (store_view h.store) cs size need limit ⊎ PassesLog (constants h.store).log (store_view h.store).log_size cs size need limit) (fits.told log (still_back law stands store_view constants faults g writable p v u h got log st) tells) r)
+      told_here : p.changes ≡ changes_on stands store_view constants g log (E (map_after g.frame m2 log)) p.store
+      told_here = fits.told log (still_back law stands store_view constants faults g writable p v u h got log st) tells
 
-      go : (k : Work) → TellsFullBy {U = U} k (constants h.store) (store_view h.store) p.changes (Err (errors.Full size need limit)) → OverBy stands store_view constants g k p.store log (E (map_after g.frame m2 log)) size need limit
-      go Count t = absurd t
-      go (Sync true) t = over t
-      go (Sync false) t = absurd t
-      go Changing t = over t
+      over : (cs : List Change) → cs ≡ changes_on stands store_view constants g log (E (map_after g.frame m2 log)) p.store → (PassesLimit (constants h.store) (store_view h.store) cs size need limit ⊎ PassesLog (constants h.store).log (store_view h.store).log_size cs size need limit)
+          → IsOver stands store_view constants g log (E (map_after g.frame m2 log)) p.store size need limit
+      over cs told r = (h.store, is_after whole log st, subst (λ (ds : List Change). PassesLimit (constants h.store) (store_view h.store) ds size need limit ⊎ PassesLog (constants h.store).log (store_view h.store).log_size ds size need limit) told r)
+
+      some : (c : Change) (cs : List Change) → c ∷ cs ≡ changes_on stands store_view constants g log (E (map_after g.frame m2 log)) p.store → changes_on stands store_view constants g log (E (map_after g.frame m2 log)) p.store ≢ []
+      some c cs told none = let e = told ∙ none in cc (e)
+
+      go : (k : Work) (cs : List Change) → cs ≡ changes_on stands store_view constants g log (E (map_after g.frame m2 log)) p.store → TellsFullBy {U = U} (work_at k cs) (constants h.store) (store_view h.store) cs (Err (errors.Full size need limit)) → OverBy stands store_view constants g k p.store log (E (map_after g.frame m2 log)) size need limit
+      go Count cs told t = absurd t
+      go (Sync true) cs told t = over cs told t
+      go (Sync false) cs told t = absurd t
+      go Changing [] told t = absurd t
+      go Changing (c ∷ cs) told t = (some c cs told, over (c ∷ cs) told t)
+      go Keeping cs told t = absurd t
 
   -- the records of the store are the same after this history
   pub same_shard : (log : List Entry) → Still g.frame m2 log u.caller → Rising g.frame.order m2 → shard_records (shard g.frame p.store) (map_after g.frame m2 u.caller.base) ≡ shard_records (shard g.frame p.store) (map_after g.frame m2 log)

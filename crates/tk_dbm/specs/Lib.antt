@@ -10,3 +10,4 @@ pub mod Fates
 pub mod Ending
 pub mod Closing
 pub mod Dbm
+pub mod AllKeys

@@ -27,11 +27,11 @@ use Rattle.tk_locks.specs.View.{View, noted}
 use Rattle.tk_dbm.specs.declared.answer.Answer.{Answer}
 use Rattle.tk_dbm.specs.declared.visit.Part.{Part}
 use Rattle.tk_dbm.specs.declared.visit.Work.{Work}
-use Rattle.tk_dbm.specs.declared.visit.Work.TheVariants.{Count, Sync, Change as Changing}
+use Rattle.tk_dbm.specs.declared.visit.Work.TheVariants.{Count, Sync, Change as Changing, Keep as Keeping}
 use Rattle.tk_dbm.specs.Setting.{Setting, records_at, newest}
 use Rattle.tk_dbm.specs.Calls.{ByStatus, is_system}
 use Rattle.tk_dbm.specs.Parts.{MadeNothing, MadeAt, MayStop}
-use Rattle.tk_dbm.specs.Room.{HasRoomAt, IsOver}
+use Rattle.tk_dbm.specs.Room.{changes_on, HasRoomAt, IsOver}
 
 abbrev pub stores_of : List Part → List ℕ
 stores_of [] = []
@@ -70,12 +70,21 @@ abbrev pub Suits : Work → List Change → Entry → Type 0
 Suits Count cs e = (cs ≡ []) × (is_hard e ≡ false)
 Suits (Sync hard) cs e = (cs ≡ []) × (e ≡ entries.Sync hard)
 Suits Changing cs e = (cs ≢ []) × (is_hard e ≡ false)
+Suits Keeping cs e = (cs ≡ []) × (is_hard e ≡ false)
+
+-- what is done in a store: one where a call that changes records changes nothing stays as it is
+abbrev pub work_at : Work → List Change → Work
+work_at Count cs = Count
+work_at (Sync hard) cs = Sync hard
+work_at Changing [] = Keeping
+work_at Changing (c ∷ cs) = Changing
+work_at Keeping cs = Keeping
 
 -- its changes are those of the call there, whatever was done since; a count of faults that was seen of the store is not above what the pass knows
 pub record IsFit (s : Setting) (work : Work) (entry : List Pair → Entry) (v : View) (p : Part) : Type 0 where
   pub alone : IsClearAlone p.changes
   pub fit : AllFitWithin 16777215 p.changes
-  pub suits : (m : List Pair) → Suits work p.changes (entry m)
+  pub suits : (m : List Pair) → Suits (work_at work p.changes) p.changes (entry m)
   pub seen : (n : ℕ) → p.seen ≡ Some n → (n ≤ noted p.store v.counts) × (s.begun p.store ≤ n)
   pub told : (log : List Entry) → Still s.frame s.first log v.caller → s.tells p.store ≡ true
       → p.changes ≡ filter (is_in_shard (shard s.frame p.store)) (changes_of s.frame.order (map_after s.frame s.first log) (entry (map_after s.frame s.first log)))
@@ -89,6 +98,7 @@ abbrev pub MayWork : Work → Bool → Type 0
 MayWork Count writes = Unit {0}
 MayWork (Sync hard) writes = Unit {0}
 MayWork Changing writes = writes ≡ true
+MayWork Keeping writes = Unit {0}
 
 -- no store makes a mark of a group without changes
 abbrev pub IsUnmarked : {T : Type 0} → (T → StoreConstants) → Ground T → Type 0
@@ -98,12 +108,14 @@ abbrev pub MarksSuit : {T : Type 0} → (T → StoreConstants) → Ground T → 
 MarksSuit constants g Count = Unit {0}
 MarksSuit constants g (Sync hard) = hard ≡ true → IsUnmarked constants g
 MarksSuit constants g Changing = Unit {0}
+MarksSuit constants g Keeping = Unit {0}
 
 -- what is reserved in a store
 abbrev pub IsPrepared : {T : Type 0} → (T → List Change → Type 0) → Work → List Change → T → Type 0
 IsPrepared reserved Count cs x = Unit {0}
 IsPrepared reserved (Sync hard) cs x = hard ≡ true → reserved x cs
 IsPrepared reserved Changing cs x = reserved x cs
+IsPrepared reserved Keeping cs x = Unit {0}
 
 -- who reserves nothing is never told that a store is full
 abbrev pub TellsFullBy : {U : Type 0} → Work → StoreConstants → StoreView → List Change → Result U StoreError → Type 0
@@ -111,12 +123,14 @@ TellsFullBy Count n x cs r = NeverFull r
 TellsFullBy (Sync true) n x cs r = TellsFull n x cs r
 TellsFullBy (Sync false) n x cs r = NeverFull r
 TellsFullBy Changing n x cs r = TellsFull n x cs r
+TellsFullBy Keeping n x cs r = NeverFull r
 
 -- the sum with these records, where records are counted
 abbrev pub IsSum : Work → (sum more result : ℕ) → Type 0
 IsSum Count sum more result = result ≡ sum + more
 IsSum (Sync hard) sum more result = Unit {0}
 IsSum Changing sum more result = Unit {0}
+IsSum Keeping sum more result = Unit {0}
 
 -- how many records these stores have
 abbrev pub count_in : Frame → List Pair → List ℕ → ℕ
@@ -148,13 +162,15 @@ module _ {T : Type 0} (stands : T → First → List Group → ℕ → Type 0) (
   OverBy Count i past e size need limit = ⊥
   OverBy (Sync true) i past e size need limit = IsOver stands store_view constants g past e i size need limit
   OverBy (Sync false) i past e size need limit = ⊥
-  OverBy Changing i past e size need limit = IsOver stands store_view constants g past e i size need limit
+  OverBy Changing i past e size need limit = (changes_on stands store_view constants g past e i ≢ []) × IsOver stands store_view constants g past e i size need limit
+  OverBy Keeping i past e size need limit = ⊥
 
   abbrev pub RoomBy : Work → ℕ → List Entry → Entry → Type 0
   RoomBy Count i past e = Unit {0}
   RoomBy (Sync true) i past e = HasRoomAt stands store_view constants g past e i
   RoomBy (Sync false) i past e = Unit {0}
-  RoomBy Changing i past e = HasRoomAt stands store_view constants g past e i
+  RoomBy Changing i past e = changes_on stands store_view constants g past e i ≢ [] → HasRoomAt stands store_view constants g past e i
+  RoomBy Keeping i past e = Unit {0}
 
 -- the numbers are those of the first of these stores that is full
 pub record NoRoom (s : Setting) (over : ℕ → List Entry → Entry → ℕ → ℕ → ℕ → Type 0) (room : ℕ → List Entry → Entry → Type 0) (is : List ℕ) (past : List Entry) (e : Entry) (size need limit : ℕ) : Type 0 where

@@ -1,6 +1,7 @@
 //! Calls of a database that many threads share.
 #![tactic(auto)]
 
+mod all_stripes;
 mod answer;
 mod change;
 mod close;

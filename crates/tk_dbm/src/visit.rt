@@ -20,7 +20,7 @@ ghost use Rattle.tk_status.specs.declared.Status.TheVariants.{System};
 ghost use Rattle.tk_dbm.specs.Parts.{IsOut, GaveUp};
 ghost use Rattle.tk_dbm.specs.Setting.{IsWritable, records_at};
 ghost use Rattle.tk_dbm.specs.Visiting.{stores_of, Climbs, AllUnbroken, MayAsk, AllFit, MayWork};
-ghost use Rattle.tk_dbm.specs.Visiting.{MarksSuit, IsPrepared, TellsFullBy, IsSum, count_in, IsDue};
+ghost use Rattle.tk_dbm.specs.Visiting.{MarksSuit, IsPrepared, TellsFullBy, IsSum, count_in, IsDue, work_at};
 ghost use Rattle.tk_dbm.specs.Visiting.{OverBy, RoomBy, Visits, Settled};
 ghost use Rattle.tk_dbm.specs.Dbm.{its, setting, view, writes, IsPassAt};
 
@@ -41,6 +41,8 @@ pub(crate) enum Work {
     Count,
     Sync { hard: bool },
     Change,
+    /// The store stays as it is.
+    Keep,
 }
 
 /// A store of a call, and what the call changes there.
@@ -50,6 +52,16 @@ pub(crate) struct Part {
     pub(crate) changes: ChangeList,
     /// The count of faults that the call saw of the store before.
     pub(crate) seen: Option<u64>,
+}
+
+/// What is done in the part's store: one where a call that changes records changes nothing stays as it is.
+fn work_in(part: &Part, work: Work) -> Work
+    ensures { result ≡ work_at work part.now.changes }
+{
+    match work {
+        Work::Change if part.changes.is_empty() => Work::Keep,
+        _ => work,
+    }
 }
 
 /// Whether the count is above the one that was seen.
@@ -102,7 +114,7 @@ impl<S: SeqStore> Dbm<S> {
                 Some(sum) => Ok(sum),
                 None => Err(StoreError::NoMemory),
             },
-            Work::Sync { hard: false } => Ok(sum),
+            Work::Sync { hard: false } | Work::Keep => Ok(sum),
             Work::Sync { hard: true } | Work::Change => {
                 self.reserve(pass, part.store, home, &part.changes)?;
                 Ok(sum)
@@ -158,7 +170,7 @@ impl<S: SeqStore> Dbm<S> {
         ensures answers { OkOrFault result }
     {
         match work {
-            Work::Count => Ok(()),
+            Work::Count | Work::Keep => Ok(()),
             Work::Sync { hard: false } => home.store.sync(false),
             Work::Sync { hard: true } => self.sync_hard(&mut home.store, number),
             Work::Change => self.apply(pass, i, home, number),
@@ -308,10 +320,11 @@ impl<S: SeqStore> Dbm<S> {
         if has_risen(part.seen, home.store.faults()) {
             return (self.fail_since(pass, i, home), 0);
         }
-        match self.prepare(pass, work, part, &mut home, sum) {
+        let here = work_in(part, work);
+        match self.prepare(pass, here, part, &mut home, sum) {
             Ok(sum) => {
                 let (answer, sum) = self.visit::<R, J>(rt, pass, work, rest, sum);
-                let status = self.settle(pass, work, i, &mut home, answer);
+                let status = self.settle(pass, here, i, &mut home, answer);
                 self.table.give_store(&mut pass.token, i, home);
                 let number = answer.number;
                 (Answer { status, number }, sum)

@@ -1,4 +1,4 @@
-use Rattle.std.proofs.Common.{◌≡◌, ◌≢◌, ◌<◌, ◌∷◌, ⊎_elim, ℕ, true, List, Option, Some, Result, Ok, Err, refl, sym, ap, ◌∙◌, subst, arith}
+use Rattle.std.proofs.Common.{◌≡◌, ◌≢◌, ◌<◌, ◌+◌, ◌∷◌, ⊎_elim, ℕ, true, List, Option, Some, Result, Ok, Err, refl, sym, ap, ◌∙◌, subst, arith}
 use Rattle.tk_status.specs.declared.Status.TheVariants as statuses
 use Rattle.tk_model.specs.Counts.{Rose}
 use Rattle.tk_model.specs.declared.record.Pair.{Pair}
@@ -18,12 +18,13 @@ use Rattle.tk_core.specs.Rule.{map_after, shard}
 use Rattle.tk_model.specs.Entries.{shard_records}
 use Rattle.tk_model.specs.declared.record.Entry.{Entry}
 use Rattle.std.specs.Prelude.{length, take}
-use Rattle.tk_dbm.specs.Visiting.{IsSum, count_in, stores_of, Climbs, MayAsk, AllFit, OverBy, RoomBy, Visits}
+use Rattle.tk_dbm.specs.declared.visit.Work.{Work}
+use Rattle.tk_dbm.specs.Visiting.{TellsFullBy, IsPrepared, IsDue, IsSum, count_in, stores_of, Climbs, MayAsk, AllFit, OverBy, RoomBy, Visits}
 use Rattle.tk_dbm.proofs.Goods.{tells_still}
 use Rattle.tk_dbm.proofs.Visits.{Visited, without_new}
 use Rattle.tk_dbm.proofs.Changing.{marked_is, holds, looked_on, gave_up_done, found_broken, failed_here, stayed_here, rose_less, fault_rose}
 use Rattle.tk_dbm.proofs.Around.{above, apart, marked_then, noted_then}
-use Rattle.tk_dbm.proofs.Visiting.{may_visit, widened, since_stores, may_number, none_left, relabelled, stopped_at, still_out, due_out, room_by, over_by, done, leveled, sum_more, same_shard, climbs_more, unbroken_more, ask_more, fit_more}
+use Rattle.tk_dbm.proofs.Visiting.{may_visit, widened, since_stores, may_number, none_left, relabelled, stopped_at, still_out, due_out, room_by, over_by, done, leveled, sum_more, sum_at, same_shard, climbs_more, unbroken_more, ask_more, fit_more}
 use Rattle.tk_dbm.proofs.dbm.Dbm.+visit.Goals as goal
 
 told : (p q : ℕ) → statuses.System p ≡ statuses.System q → p ≡ q
@@ -86,7 +87,7 @@ pub returns-in-Err-Full-clause-visits : goal.returns-in-Err-Full-clause-visits
 returns-in-Err-Full-clause-visits g t c = subst (λ (ps : List Part). Visits (setting g.S.SeqStore.lawful g.S.SeqStore.store_view g.S.SeqStore.fault_count c.args.self.now) (OverBy g.S.SeqStore.stands g.S.SeqStore.store_view g.S.SeqStore.constants (its c.args.self.now) c.args.work) (RoomBy g.S.SeqStore.stands g.S.SeqStore.store_view g.S.SeqStore.constants (its c.args.self.now) c.args.work) g.J.Asked.entry ps (view c.args.pass.now) c.refuse-in-Err-Full.result (view c.refuse-in-Err-Full.new.pass)) (sym c.in-Some.ensures.cases.0)
     (stopped_at g.S.SeqStore.lawful g.S.SeqStore.stands g.S.SeqStore.store_view g.S.SeqStore.constants g.S.SeqStore.fault_count (its c.args.self.now) (writes c.args.self.now) c.in-Some.part.now (view c.args.pass.now) (view_of c.take_store-home.new.pass) c.take_store-home.result (may_visit (its c.args.self.now).frame c.in-Some.part.now.store (stores_of c.in-Some.rest.now) (view c.args.pass.now).caller (subst (λ (ps : List Part). Climbs (its c.args.self.now).frame (stores_of ps) (view c.args.pass.now).caller.held) c.in-Some.ensures.cases.0 c.requires.climbs) c.requires.ask.allowance) c.take_store-home.ensures.step (OverBy g.S.SeqStore.stands g.S.SeqStore.store_view g.S.SeqStore.constants (its c.args.self.now) c.args.work) (RoomBy g.S.SeqStore.stands g.S.SeqStore.store_view g.S.SeqStore.constants (its c.args.self.now) c.args.work) g.J.Asked.entry c.in-Some.rest.now c.refuse-in-Err-Full.result (statuses.Full c.in-Err-Full.size c.in-Err-Full.need c.in-Err-Full.limit) c.prepare.new.home (view c.refuse-in-Err-Full.new.pass) (rw c.in-Err-Full.field-0-is at c.refuse-in-Err-Full.ensures.answer) c.requires.own.breaking c.refuse-in-Err-Full.ensures.step
     (widened (setting g.S.SeqStore.lawful g.S.SeqStore.store_view g.S.SeqStore.fault_count c.args.self.now) c.in-Some.part.now c.in-Some.rest.now (view c.args.pass.now) (view c.refuse-in-Err-Full.new.pass) (statuses.Full c.in-Err-Full.size c.in-Err-Full.need c.in-Err-Full.limit) (stayed_here g.S.SeqStore.lawful g.S.SeqStore.stands g.S.SeqStore.store_view g.S.SeqStore.constants g.S.SeqStore.fault_count (its c.args.self.now) (writes c.args.self.now) c.in-Some.part.now.store (view c.args.pass.now) (view_of c.take_store-home.new.pass) c.take_store-home.result (may_visit (its c.args.self.now).frame c.in-Some.part.now.store (stores_of c.in-Some.rest.now) (view c.args.pass.now).caller (subst (λ (ps : List Part). Climbs (its c.args.self.now).frame (stores_of ps) (view c.args.pass.now).caller.held) c.in-Some.ensures.cases.0 c.requires.climbs) c.requires.ask.allowance) c.take_store-home.ensures.step (statuses.Full c.in-Err-Full.size c.in-Err-Full.need c.in-Err-Full.limit) c.prepare.new.home (looked_on g.S.SeqStore.lawful g.S.SeqStore.stands g.S.SeqStore.store_view g.S.SeqStore.constants g.S.SeqStore.fault_count (its c.args.self.now) (writes c.args.self.now) c.in-Some.part.now.store (view c.args.pass.now) (view_of c.take_store-home.new.pass) c.take_store-home.result (may_visit (its c.args.self.now).frame c.in-Some.part.now.store (stores_of c.in-Some.rest.now) (view c.args.pass.now).caller (subst (λ (ps : List Part). Climbs (its c.args.self.now).frame (stores_of ps) (view c.args.pass.now).caller.held) c.in-Some.ensures.cases.0 c.requires.climbs) c.requires.ask.allowance) c.take_store-home.ensures.step c.refuse-in-Err-Full.ensures.step.0) (view c.refuse-in-Err-Full.new.pass) tt c.in_default-broken.is c.prepare.ensures.whole (gave_up_done g.S.SeqStore.lawful g.S.SeqStore.stands g.S.SeqStore.store_view g.S.SeqStore.constants g.S.SeqStore.fault_count (its c.args.self.now) (writes c.args.self.now) c.in-Some.part.now.store (view c.args.pass.now) (view_of c.take_store-home.new.pass) c.take_store-home.result (may_visit (its c.args.self.now).frame c.in-Some.part.now.store (stores_of c.in-Some.rest.now) (view c.args.pass.now).caller (subst (λ (ps : List Part). Climbs (its c.args.self.now).frame (stores_of ps) (view c.args.pass.now).caller.held) c.in-Some.ensures.cases.0 c.requires.climbs) c.requires.ask.allowance) c.take_store-home.ensures.step c.prepare.new.home (view c.refuse-in-Err-Full.new.pass) c.requires.own.breaking c.refuse-in-Err-Full.ensures.step)))
-    (λ z e. absurd (cc (e))) (record { store = c.in-Some.part.now.store; member = has_head c.in-Some.part.now.store (stores_of c.in-Some.rest.now); passed = over_by g.S.SeqStore.lawful g.S.SeqStore.stands g.S.SeqStore.store_view g.S.SeqStore.constants g.S.SeqStore.fault_count (its c.args.self.now) (writes c.args.self.now) c.in-Some.part.now (view c.args.pass.now) (view_of c.take_store-home.new.pass) c.take_store-home.result (may_visit (its c.args.self.now).frame c.in-Some.part.now.store (stores_of c.in-Some.rest.now) (view c.args.pass.now).caller (subst (λ (ps : List Part). Climbs (its c.args.self.now).frame (stores_of ps) (view c.args.pass.now).caller.held) c.in-Some.ensures.cases.0 c.requires.climbs) c.requires.ask.allowance) c.take_store-home.ensures.step c.args.work g.J.Asked.entry c.prepare.result c.in-Err-Full.size c.in-Err-Full.need c.in-Err-Full.limit (c.in-Err-Full.is ∙ ap Err c.in-Err-Full.field-0-is) c.prepare.ensures.full c.in_default-broken.is (subst (λ (ps : List Part). AllFit (setting g.S.SeqStore.lawful g.S.SeqStore.store_view g.S.SeqStore.fault_count c.args.self.now) c.args.work g.J.Asked.entry (view c.args.pass.now) ps) c.in-Some.ensures.cases.0 c.requires.fit).0 c.refuse-in-Err-Full.ensures.step.0 c.refuse-in-Err-Full.ensures.step.1.still; order = λ j has_j less tells. absurd (not_lower (its c.args.self.now).frame c.in-Some.part.now.store (stores_of c.in-Some.rest.now) (view c.args.pass.now).caller.held (subst (λ (ps : List Part). Climbs (its c.args.self.now).frame (stores_of ps) (view c.args.pass.now).caller.held) c.in-Some.ensures.cases.0 c.requires.climbs) j has_j less) }))
+    (λ z e. absurd (cc (e))) (record { store = c.in-Some.part.now.store; member = has_head c.in-Some.part.now.store (stores_of c.in-Some.rest.now); passed = over_by g.S.SeqStore.lawful g.S.SeqStore.stands g.S.SeqStore.store_view g.S.SeqStore.constants g.S.SeqStore.fault_count (its c.args.self.now) (writes c.args.self.now) c.in-Some.part.now (view c.args.pass.now) (view_of c.take_store-home.new.pass) c.take_store-home.result (may_visit (its c.args.self.now).frame c.in-Some.part.now.store (stores_of c.in-Some.rest.now) (view c.args.pass.now).caller (subst (λ (ps : List Part). Climbs (its c.args.self.now).frame (stores_of ps) (view c.args.pass.now).caller.held) c.in-Some.ensures.cases.0 c.requires.climbs) c.requires.ask.allowance) c.take_store-home.ensures.step c.args.work g.J.Asked.entry c.prepare.result c.in-Err-Full.size c.in-Err-Full.need c.in-Err-Full.limit (c.in-Err-Full.is ∙ ap Err c.in-Err-Full.field-0-is) (subst (λ (w : Work). TellsFullBy w (g.S.SeqStore.constants c.take_store-home.result.store) (g.S.SeqStore.store_view c.take_store-home.result.store) c.in-Some.part.now.changes c.prepare.result) c.work_in-here.ensures c.prepare.ensures.full) c.in_default-broken.is (subst (λ (ps : List Part). AllFit (setting g.S.SeqStore.lawful g.S.SeqStore.store_view g.S.SeqStore.fault_count c.args.self.now) c.args.work g.J.Asked.entry (view c.args.pass.now) ps) c.in-Some.ensures.cases.0 c.requires.fit).0 c.refuse-in-Err-Full.ensures.step.0 c.refuse-in-Err-Full.ensures.step.1.still; order = λ j has_j less tells. absurd (not_lower (its c.args.self.now).frame c.in-Some.part.now.store (stores_of c.in-Some.rest.now) (view c.args.pass.now).caller.held (subst (λ (ps : List Part). Climbs (its c.args.self.now).frame (stores_of ps) (view c.args.pass.now).caller.held) c.in-Some.ensures.cases.0 c.requires.climbs) j has_j less) }))
 
 pub returns-in-Err-NoMemory-clause-own : goal.returns-in-Err-NoMemory-clause-own
 returns-in-Err-NoMemory-clause-own g t c = let z = gave_up_done g.S.SeqStore.lawful g.S.SeqStore.stands g.S.SeqStore.store_view g.S.SeqStore.constants g.S.SeqStore.fault_count (its c.args.self.now) (writes c.args.self.now) c.in-Some.part.now.store (view c.args.pass.now) (view_of c.take_store-home.new.pass) c.take_store-home.result (may_visit (its c.args.self.now).frame c.in-Some.part.now.store (stores_of c.in-Some.rest.now) (view c.args.pass.now).caller (subst (λ (ps : List Part). Climbs (its c.args.self.now).frame (stores_of ps) (view c.args.pass.now).caller.held) c.in-Some.ensures.cases.0 c.requires.climbs) c.requires.ask.allowance) c.take_store-home.ensures.step c.prepare.new.home (view c.refuse-in-Err-NoMemory.new.pass) c.requires.own.breaking c.refuse-in-Err-NoMemory.ensures.step in
@@ -108,20 +109,20 @@ pub settle-status-requires-clause-out : goal.settle-status-requires-clause-out
 settle-status-requires-clause-out g t c missing = still_out g.S.SeqStore.lawful g.S.SeqStore.stands g.S.SeqStore.store_view g.S.SeqStore.constants g.S.SeqStore.fault_count (its c.args.self.now) (writes c.args.self.now) c.in-Some.part.now (view c.args.pass.now) (view_of c.take_store-home.new.pass) c.take_store-home.result c.take_store-home.ensures.step c.args.work (OverBy g.S.SeqStore.stands g.S.SeqStore.store_view g.S.SeqStore.constants (its c.args.self.now) c.args.work) (RoomBy g.S.SeqStore.stands g.S.SeqStore.store_view g.S.SeqStore.constants (its c.args.self.now) c.args.work) g.J.Asked.entry c.in-Some.rest.now c.visit-sum.result.0 (view c.visit-sum.new.pass) c.visit-sum.ensures.visits c.visit-sum.ensures.own.held (apart (its c.args.self.now).frame c.in-Some.part.now.store (stores_of c.in-Some.rest.now) (view c.args.pass.now).caller.held (subst (λ (ps : List Part). Climbs (its c.args.self.now).frame (stores_of ps) (view c.args.pass.now).caller.held) c.in-Some.ensures.cases.0 c.requires.climbs)) c.prepare.new.home missing (c.in-Ok.ensures.out)
 
 pub settle-status-requires-clause-due : goal.settle-status-requires-clause-due
-settle-status-requires-clause-due g t c n is = (due_out g.S.SeqStore.lawful g.S.SeqStore.stands g.S.SeqStore.store_view g.S.SeqStore.constants g.S.SeqStore.fault_count (its c.args.self.now) (writes c.args.self.now) c.in-Some.part.now (view c.args.pass.now) (view_of c.take_store-home.new.pass) c.take_store-home.result c.take_store-home.ensures.step c.args.work (OverBy g.S.SeqStore.stands g.S.SeqStore.store_view g.S.SeqStore.constants (its c.args.self.now) c.args.work) (RoomBy g.S.SeqStore.stands g.S.SeqStore.store_view g.S.SeqStore.constants (its c.args.self.now) c.args.work) g.J.Asked.entry c.in-Some.rest.now c.visit-sum.result.0 (view c.visit-sum.new.pass) c.visit-sum.ensures.visits c.visit-sum.ensures.own.held (apart (its c.args.self.now).frame c.in-Some.part.now.store (stores_of c.in-Some.rest.now) (view c.args.pass.now).caller.held (subst (λ (ps : List Part). Climbs (its c.args.self.now).frame (stores_of ps) (view c.args.pass.now).caller.held) c.in-Some.ensures.cases.0 c.requires.climbs)) g.S.SeqStore.reserved c.prepare.new.home.store c.prepare.new.home.broken n _ is refl c.prepare.ensures.whole (marked_is g.S.SeqStore.lawful g.S.SeqStore.stands g.S.SeqStore.store_view g.S.SeqStore.constants g.S.SeqStore.fault_count (its c.args.self.now) (writes c.args.self.now) c.in-Some.part.now.store (view c.args.pass.now) (view_of c.take_store-home.new.pass) c.take_store-home.result (may_visit (its c.args.self.now).frame c.in-Some.part.now.store (stores_of c.in-Some.rest.now) (view c.args.pass.now).caller (subst (λ (ps : List Part). Climbs (its c.args.self.now).frame (stores_of ps) (view c.args.pass.now).caller.held) c.in-Some.ensures.cases.0 c.requires.climbs) c.requires.ask.allowance) c.take_store-home.ensures.step ∙ c.in_default-broken.is) (c.in-Ok.ensures.out) (tells_still g.S.SeqStore.lawful g.S.SeqStore.stands g.S.SeqStore.store_view g.S.SeqStore.constants (its c.args.self.now) c.requires.own.fresh c.in-Some.part.now.store (subst (λ (ps : List Part). Climbs (its c.args.self.now).frame (stores_of ps) (view c.args.pass.now).caller.held) c.in-Some.ensures.cases.0 c.requires.climbs).0 c.prepare.new.home.store _ _ ((c.in-Ok.ensures.out).owed c.prepare.ensures.whole)) (subst (λ (ps : List Part). AllFit (setting g.S.SeqStore.lawful g.S.SeqStore.store_view g.S.SeqStore.fault_count c.args.self.now) c.args.work g.J.Asked.entry (view c.args.pass.now) ps) c.in-Some.ensures.cases.0 c.requires.fit).0 c.in-Ok.ensures.reserved, (c.visit-sum.ensures.visits.made n is).3)
+settle-status-requires-clause-due g t c n is = (subst (λ (w : Work). IsDue g.S.SeqStore.lawful g.S.SeqStore.stands g.S.SeqStore.store_view g.S.SeqStore.constants g.S.SeqStore.fault_count (its c.args.self.now) g.S.SeqStore.reserved w c.in-Some.part.now.store ((its c.args.self.now).frame.base + n) (view c.visit-sum.new.pass) c.prepare.new.home.store) (sym c.work_in-here.ensures) (due_out g.S.SeqStore.lawful g.S.SeqStore.stands g.S.SeqStore.store_view g.S.SeqStore.constants g.S.SeqStore.fault_count (its c.args.self.now) (writes c.args.self.now) c.in-Some.part.now (view c.args.pass.now) (view_of c.take_store-home.new.pass) c.take_store-home.result c.take_store-home.ensures.step c.args.work (OverBy g.S.SeqStore.stands g.S.SeqStore.store_view g.S.SeqStore.constants (its c.args.self.now) c.args.work) (RoomBy g.S.SeqStore.stands g.S.SeqStore.store_view g.S.SeqStore.constants (its c.args.self.now) c.args.work) g.J.Asked.entry c.in-Some.rest.now c.visit-sum.result.0 (view c.visit-sum.new.pass) c.visit-sum.ensures.visits c.visit-sum.ensures.own.held (apart (its c.args.self.now).frame c.in-Some.part.now.store (stores_of c.in-Some.rest.now) (view c.args.pass.now).caller.held (subst (λ (ps : List Part). Climbs (its c.args.self.now).frame (stores_of ps) (view c.args.pass.now).caller.held) c.in-Some.ensures.cases.0 c.requires.climbs)) g.S.SeqStore.reserved c.prepare.new.home.store c.prepare.new.home.broken n _ is refl c.prepare.ensures.whole (marked_is g.S.SeqStore.lawful g.S.SeqStore.stands g.S.SeqStore.store_view g.S.SeqStore.constants g.S.SeqStore.fault_count (its c.args.self.now) (writes c.args.self.now) c.in-Some.part.now.store (view c.args.pass.now) (view_of c.take_store-home.new.pass) c.take_store-home.result (may_visit (its c.args.self.now).frame c.in-Some.part.now.store (stores_of c.in-Some.rest.now) (view c.args.pass.now).caller (subst (λ (ps : List Part). Climbs (its c.args.self.now).frame (stores_of ps) (view c.args.pass.now).caller.held) c.in-Some.ensures.cases.0 c.requires.climbs) c.requires.ask.allowance) c.take_store-home.ensures.step ∙ c.in_default-broken.is) (c.in-Ok.ensures.out) (tells_still g.S.SeqStore.lawful g.S.SeqStore.stands g.S.SeqStore.store_view g.S.SeqStore.constants (its c.args.self.now) c.requires.own.fresh c.in-Some.part.now.store (subst (λ (ps : List Part). Climbs (its c.args.self.now).frame (stores_of ps) (view c.args.pass.now).caller.held) c.in-Some.ensures.cases.0 c.requires.climbs).0 c.prepare.new.home.store _ _ ((c.in-Ok.ensures.out).owed c.prepare.ensures.whole)) (subst (λ (ps : List Part). AllFit (setting g.S.SeqStore.lawful g.S.SeqStore.store_view g.S.SeqStore.fault_count c.args.self.now) c.args.work g.J.Asked.entry (view c.args.pass.now) ps) c.in-Some.ensures.cases.0 c.requires.fit).0 (subst (λ (w : Work). IsPrepared g.S.SeqStore.reserved w c.in-Some.part.now.changes c.prepare.new.home.store) c.work_in-here.ensures c.in-Ok.ensures.reserved)), (c.visit-sum.ensures.visits.made n is).3)
 
 pub returns-in-Ok-clause-own : goal.returns-in-Ok-clause-own
-returns-in-Ok-clause-own g t c = let z = done g.S.SeqStore.lawful g.S.SeqStore.stands g.S.SeqStore.store_view g.S.SeqStore.constants g.S.SeqStore.fault_count (its c.args.self.now) (writes c.args.self.now) c.in-Some.part.now (view c.args.pass.now) (view_of c.take_store-home.new.pass) c.take_store-home.result c.take_store-home.ensures.step c.args.work (OverBy g.S.SeqStore.stands g.S.SeqStore.store_view g.S.SeqStore.constants (its c.args.self.now) c.args.work) (RoomBy g.S.SeqStore.stands g.S.SeqStore.store_view g.S.SeqStore.constants (its c.args.self.now) c.args.work) g.J.Asked.entry c.in-Some.rest.now c.visit-sum.result.0 (view c.visit-sum.new.pass) c.visit-sum.ensures.visits c.visit-sum.ensures.own.held (apart (its c.args.self.now).frame c.in-Some.part.now.store (stores_of c.in-Some.rest.now) (view c.args.pass.now).caller.held (subst (λ (ps : List Part). Climbs (its c.args.self.now).frame (stores_of ps) (view c.args.pass.now).caller.held) c.in-Some.ensures.cases.0 c.requires.climbs)) c.settle-status.result c.prepare.new.home.store c.settle-status.new.home (view_of c.give_store.new.pass) c.in_default-broken.is (kept_count (g.S.SeqStore.fault_count c.take_store-home.result.store) (g.S.SeqStore.fault_count c.prepare.new.home.store) c.prepare.result c.in-Ok.sum c.in-Ok.is c.prepare.ensures.cause) c.settle-status.ensures.settled c.give_store.ensures.step c.visit-sum.ensures.own.breaking (above (its c.args.self.now).frame c.in-Some.part.now.store (stores_of c.in-Some.rest.now) (view c.args.pass.now).caller.held (subst (λ (ps : List Part). Climbs (its c.args.self.now).frame (stores_of ps) (view c.args.pass.now).caller.held) c.in-Some.ensures.cases.0 c.requires.climbs)) (subst (λ (ps : List Part). AllFit (setting g.S.SeqStore.lawful g.S.SeqStore.store_view g.S.SeqStore.fault_count c.args.self.now) c.args.work g.J.Asked.entry (view c.args.pass.now) ps) c.in-Some.ensures.cases.0 c.requires.fit).0 (λ q e less. let le = c.has_risen.ensures.same c.if-has_risen.false q e in let f = c.faults.ensures in absurd (omega arith)) (subst (λ (ps : List Part). Climbs (its c.args.self.now).frame (stores_of ps) (view c.args.pass.now).caller.held) c.in-Some.ensures.cases.0 c.requires.climbs).0 (λ log st tells. room_by g.S.SeqStore.lawful g.S.SeqStore.stands g.S.SeqStore.store_view g.S.SeqStore.constants g.S.SeqStore.fault_count (its c.args.self.now) (writes c.args.self.now) c.in-Some.part.now (view c.args.pass.now) (view_of c.take_store-home.new.pass) c.take_store-home.result (may_visit (its c.args.self.now).frame c.in-Some.part.now.store (stores_of c.in-Some.rest.now) (view c.args.pass.now).caller (subst (λ (ps : List Part). Climbs (its c.args.self.now).frame (stores_of ps) (view c.args.pass.now).caller.held) c.in-Some.ensures.cases.0 c.requires.climbs) c.requires.ask.allowance) c.take_store-home.ensures.step c.args.work g.J.Asked.entry c.prepare.result c.in-Ok.sum c.in-Ok.is c.prepare.ensures.full c.in_default-broken.is (subst (λ (ps : List Part). AllFit (setting g.S.SeqStore.lawful g.S.SeqStore.store_view g.S.SeqStore.fault_count c.args.self.now) c.args.work g.J.Asked.entry (view c.args.pass.now) ps) c.in-Some.ensures.cases.0 c.requires.fit).0 log st tells) in
+returns-in-Ok-clause-own g t c = let z = done g.S.SeqStore.lawful g.S.SeqStore.stands g.S.SeqStore.store_view g.S.SeqStore.constants g.S.SeqStore.fault_count (its c.args.self.now) (writes c.args.self.now) c.in-Some.part.now (view c.args.pass.now) (view_of c.take_store-home.new.pass) c.take_store-home.result c.take_store-home.ensures.step c.args.work (OverBy g.S.SeqStore.stands g.S.SeqStore.store_view g.S.SeqStore.constants (its c.args.self.now) c.args.work) (RoomBy g.S.SeqStore.stands g.S.SeqStore.store_view g.S.SeqStore.constants (its c.args.self.now) c.args.work) g.J.Asked.entry c.in-Some.rest.now c.visit-sum.result.0 (view c.visit-sum.new.pass) c.visit-sum.ensures.visits c.visit-sum.ensures.own.held (apart (its c.args.self.now).frame c.in-Some.part.now.store (stores_of c.in-Some.rest.now) (view c.args.pass.now).caller.held (subst (λ (ps : List Part). Climbs (its c.args.self.now).frame (stores_of ps) (view c.args.pass.now).caller.held) c.in-Some.ensures.cases.0 c.requires.climbs)) c.settle-status.result c.prepare.new.home.store c.settle-status.new.home (view_of c.give_store.new.pass) c.in_default-broken.is (kept_count (g.S.SeqStore.fault_count c.take_store-home.result.store) (g.S.SeqStore.fault_count c.prepare.new.home.store) c.prepare.result c.in-Ok.sum c.in-Ok.is c.prepare.ensures.cause) c.settle-status.ensures.settled c.give_store.ensures.step c.visit-sum.ensures.own.breaking (above (its c.args.self.now).frame c.in-Some.part.now.store (stores_of c.in-Some.rest.now) (view c.args.pass.now).caller.held (subst (λ (ps : List Part). Climbs (its c.args.self.now).frame (stores_of ps) (view c.args.pass.now).caller.held) c.in-Some.ensures.cases.0 c.requires.climbs)) (subst (λ (ps : List Part). AllFit (setting g.S.SeqStore.lawful g.S.SeqStore.store_view g.S.SeqStore.fault_count c.args.self.now) c.args.work g.J.Asked.entry (view c.args.pass.now) ps) c.in-Some.ensures.cases.0 c.requires.fit).0 (λ q e less. let le = c.has_risen.ensures.same c.if-has_risen.false q e in let f = c.faults.ensures in absurd (omega arith)) (subst (λ (ps : List Part). Climbs (its c.args.self.now).frame (stores_of ps) (view c.args.pass.now).caller.held) c.in-Some.ensures.cases.0 c.requires.climbs).0 (λ log st tells. room_by g.S.SeqStore.lawful g.S.SeqStore.stands g.S.SeqStore.store_view g.S.SeqStore.constants g.S.SeqStore.fault_count (its c.args.self.now) (writes c.args.self.now) c.in-Some.part.now (view c.args.pass.now) (view_of c.take_store-home.new.pass) c.take_store-home.result (may_visit (its c.args.self.now).frame c.in-Some.part.now.store (stores_of c.in-Some.rest.now) (view c.args.pass.now).caller (subst (λ (ps : List Part). Climbs (its c.args.self.now).frame (stores_of ps) (view c.args.pass.now).caller.held) c.in-Some.ensures.cases.0 c.requires.climbs) c.requires.ask.allowance) c.take_store-home.ensures.step c.args.work g.J.Asked.entry c.prepare.result c.in-Ok.sum c.in-Ok.is (subst (λ (w : Work). TellsFullBy w (g.S.SeqStore.constants c.take_store-home.result.store) (g.S.SeqStore.store_view c.take_store-home.result.store) c.in-Some.part.now.changes c.prepare.result) c.work_in-here.ensures c.prepare.ensures.full) c.in_default-broken.is (subst (λ (ps : List Part). AllFit (setting g.S.SeqStore.lawful g.S.SeqStore.store_view g.S.SeqStore.fault_count c.args.self.now) c.args.work g.J.Asked.entry (view c.args.pass.now) ps) c.in-Some.ensures.cases.0 c.requires.fit).0 log st tells) in
     record { own = c.give_store.ensures.own; held = z.held ∙ ap (without (store_lock (its c.args.self.now).frame c.in-Some.part.now.store)) (c.visit-sum.ensures.own.held ∙ ap (λ (q : View). q.caller.held) c.take_store-home.ensures.step.2) ∙ without_new (store_lock (its c.args.self.now).frame c.in-Some.part.now.store) (view c.args.pass.now).caller.held (subst (λ (ps : List Part). Climbs (its c.args.self.now).frame (stores_of ps) (view c.args.pass.now).caller.held) c.in-Some.ensures.cases.0 c.requires.climbs).1; breaking = z.breaking; fresh = c.requires.own.fresh; writable = c.requires.own.writable }
 
 pub returns-in-Ok-clause-visits : goal.returns-in-Ok-clause-visits
 returns-in-Ok-clause-visits g t c = subst (λ (ps : List Part). Visits (setting g.S.SeqStore.lawful g.S.SeqStore.store_view g.S.SeqStore.fault_count c.args.self.now) (OverBy g.S.SeqStore.stands g.S.SeqStore.store_view g.S.SeqStore.constants (its c.args.self.now) c.args.work) (RoomBy g.S.SeqStore.stands g.S.SeqStore.store_view g.S.SeqStore.constants (its c.args.self.now) c.args.work) g.J.Asked.entry ps (view c.args.pass.now) (record { status = c.settle-status.result; number = c.visit-sum.result.0.number }) (view_of c.give_store.new.pass)) (sym c.in-Some.ensures.cases.0)
-    (leveled g.S.SeqStore.lawful g.S.SeqStore.stands g.S.SeqStore.store_view g.S.SeqStore.constants g.S.SeqStore.fault_count (its c.args.self.now) (writes c.args.self.now) c.in-Some.part.now (view c.args.pass.now) (view_of c.take_store-home.new.pass) c.take_store-home.result c.take_store-home.ensures.step c.args.work (OverBy g.S.SeqStore.stands g.S.SeqStore.store_view g.S.SeqStore.constants (its c.args.self.now) c.args.work) (RoomBy g.S.SeqStore.stands g.S.SeqStore.store_view g.S.SeqStore.constants (its c.args.self.now) c.args.work) g.J.Asked.entry c.in-Some.rest.now c.visit-sum.result.0 (view c.visit-sum.new.pass) c.visit-sum.ensures.visits c.visit-sum.ensures.own.held (apart (its c.args.self.now).frame c.in-Some.part.now.store (stores_of c.in-Some.rest.now) (view c.args.pass.now).caller.held (subst (λ (ps : List Part). Climbs (its c.args.self.now).frame (stores_of ps) (view c.args.pass.now).caller.held) c.in-Some.ensures.cases.0 c.requires.climbs)) c.settle-status.result c.prepare.new.home.store c.settle-status.new.home (view_of c.give_store.new.pass) c.in_default-broken.is (kept_count (g.S.SeqStore.fault_count c.take_store-home.result.store) (g.S.SeqStore.fault_count c.prepare.new.home.store) c.prepare.result c.in-Ok.sum c.in-Ok.is c.prepare.ensures.cause) c.settle-status.ensures.settled c.give_store.ensures.step c.visit-sum.ensures.own.breaking (above (its c.args.self.now).frame c.in-Some.part.now.store (stores_of c.in-Some.rest.now) (view c.args.pass.now).caller.held (subst (λ (ps : List Part). Climbs (its c.args.self.now).frame (stores_of ps) (view c.args.pass.now).caller.held) c.in-Some.ensures.cases.0 c.requires.climbs)) (subst (λ (ps : List Part). AllFit (setting g.S.SeqStore.lawful g.S.SeqStore.store_view g.S.SeqStore.fault_count c.args.self.now) c.args.work g.J.Asked.entry (view c.args.pass.now) ps) c.in-Some.ensures.cases.0 c.requires.fit).0 (λ q e less. let le = c.has_risen.ensures.same c.if-has_risen.false q e in let f = c.faults.ensures in absurd (omega arith)) (subst (λ (ps : List Part). Climbs (its c.args.self.now).frame (stores_of ps) (view c.args.pass.now).caller.held) c.in-Some.ensures.cases.0 c.requires.climbs).0 (λ log st tells. room_by g.S.SeqStore.lawful g.S.SeqStore.stands g.S.SeqStore.store_view g.S.SeqStore.constants g.S.SeqStore.fault_count (its c.args.self.now) (writes c.args.self.now) c.in-Some.part.now (view c.args.pass.now) (view_of c.take_store-home.new.pass) c.take_store-home.result (may_visit (its c.args.self.now).frame c.in-Some.part.now.store (stores_of c.in-Some.rest.now) (view c.args.pass.now).caller (subst (λ (ps : List Part). Climbs (its c.args.self.now).frame (stores_of ps) (view c.args.pass.now).caller.held) c.in-Some.ensures.cases.0 c.requires.climbs) c.requires.ask.allowance) c.take_store-home.ensures.step c.args.work g.J.Asked.entry c.prepare.result c.in-Ok.sum c.in-Ok.is c.prepare.ensures.full c.in_default-broken.is (subst (λ (ps : List Part). AllFit (setting g.S.SeqStore.lawful g.S.SeqStore.store_view g.S.SeqStore.fault_count c.args.self.now) c.args.work g.J.Asked.entry (view c.args.pass.now) ps) c.in-Some.ensures.cases.0 c.requires.fit).0 log st tells))
+    (leveled g.S.SeqStore.lawful g.S.SeqStore.stands g.S.SeqStore.store_view g.S.SeqStore.constants g.S.SeqStore.fault_count (its c.args.self.now) (writes c.args.self.now) c.in-Some.part.now (view c.args.pass.now) (view_of c.take_store-home.new.pass) c.take_store-home.result c.take_store-home.ensures.step c.args.work (OverBy g.S.SeqStore.stands g.S.SeqStore.store_view g.S.SeqStore.constants (its c.args.self.now) c.args.work) (RoomBy g.S.SeqStore.stands g.S.SeqStore.store_view g.S.SeqStore.constants (its c.args.self.now) c.args.work) g.J.Asked.entry c.in-Some.rest.now c.visit-sum.result.0 (view c.visit-sum.new.pass) c.visit-sum.ensures.visits c.visit-sum.ensures.own.held (apart (its c.args.self.now).frame c.in-Some.part.now.store (stores_of c.in-Some.rest.now) (view c.args.pass.now).caller.held (subst (λ (ps : List Part). Climbs (its c.args.self.now).frame (stores_of ps) (view c.args.pass.now).caller.held) c.in-Some.ensures.cases.0 c.requires.climbs)) c.settle-status.result c.prepare.new.home.store c.settle-status.new.home (view_of c.give_store.new.pass) c.in_default-broken.is (kept_count (g.S.SeqStore.fault_count c.take_store-home.result.store) (g.S.SeqStore.fault_count c.prepare.new.home.store) c.prepare.result c.in-Ok.sum c.in-Ok.is c.prepare.ensures.cause) c.settle-status.ensures.settled c.give_store.ensures.step c.visit-sum.ensures.own.breaking (above (its c.args.self.now).frame c.in-Some.part.now.store (stores_of c.in-Some.rest.now) (view c.args.pass.now).caller.held (subst (λ (ps : List Part). Climbs (its c.args.self.now).frame (stores_of ps) (view c.args.pass.now).caller.held) c.in-Some.ensures.cases.0 c.requires.climbs)) (subst (λ (ps : List Part). AllFit (setting g.S.SeqStore.lawful g.S.SeqStore.store_view g.S.SeqStore.fault_count c.args.self.now) c.args.work g.J.Asked.entry (view c.args.pass.now) ps) c.in-Some.ensures.cases.0 c.requires.fit).0 (λ q e less. let le = c.has_risen.ensures.same c.if-has_risen.false q e in let f = c.faults.ensures in absurd (omega arith)) (subst (λ (ps : List Part). Climbs (its c.args.self.now).frame (stores_of ps) (view c.args.pass.now).caller.held) c.in-Some.ensures.cases.0 c.requires.climbs).0 (λ log st tells. room_by g.S.SeqStore.lawful g.S.SeqStore.stands g.S.SeqStore.store_view g.S.SeqStore.constants g.S.SeqStore.fault_count (its c.args.self.now) (writes c.args.self.now) c.in-Some.part.now (view c.args.pass.now) (view_of c.take_store-home.new.pass) c.take_store-home.result (may_visit (its c.args.self.now).frame c.in-Some.part.now.store (stores_of c.in-Some.rest.now) (view c.args.pass.now).caller (subst (λ (ps : List Part). Climbs (its c.args.self.now).frame (stores_of ps) (view c.args.pass.now).caller.held) c.in-Some.ensures.cases.0 c.requires.climbs) c.requires.ask.allowance) c.take_store-home.ensures.step c.args.work g.J.Asked.entry c.prepare.result c.in-Ok.sum c.in-Ok.is (subst (λ (w : Work). TellsFullBy w (g.S.SeqStore.constants c.take_store-home.result.store) (g.S.SeqStore.store_view c.take_store-home.result.store) c.in-Some.part.now.changes c.prepare.result) c.work_in-here.ensures c.prepare.ensures.full) c.in_default-broken.is (subst (λ (ps : List Part). AllFit (setting g.S.SeqStore.lawful g.S.SeqStore.store_view g.S.SeqStore.fault_count c.args.self.now) c.args.work g.J.Asked.entry (view c.args.pass.now) ps) c.in-Some.ensures.cases.0 c.requires.fit).0 log st tells))
 
 pub returns-in-Ok-clause-sum : goal.returns-in-Ok-clause-sum
-returns-in-Ok-clause-sum g t c n is told_each = let z = done g.S.SeqStore.lawful g.S.SeqStore.stands g.S.SeqStore.store_view g.S.SeqStore.constants g.S.SeqStore.fault_count (its c.args.self.now) (writes c.args.self.now) c.in-Some.part.now (view c.args.pass.now) (view_of c.take_store-home.new.pass) c.take_store-home.result c.take_store-home.ensures.step c.args.work (OverBy g.S.SeqStore.stands g.S.SeqStore.store_view g.S.SeqStore.constants (its c.args.self.now) c.args.work) (RoomBy g.S.SeqStore.stands g.S.SeqStore.store_view g.S.SeqStore.constants (its c.args.self.now) c.args.work) g.J.Asked.entry c.in-Some.rest.now c.visit-sum.result.0 (view c.visit-sum.new.pass) c.visit-sum.ensures.visits c.visit-sum.ensures.own.held (apart (its c.args.self.now).frame c.in-Some.part.now.store (stores_of c.in-Some.rest.now) (view c.args.pass.now).caller.held (subst (λ (ps : List Part). Climbs (its c.args.self.now).frame (stores_of ps) (view c.args.pass.now).caller.held) c.in-Some.ensures.cases.0 c.requires.climbs)) c.settle-status.result c.prepare.new.home.store c.settle-status.new.home (view_of c.give_store.new.pass) c.in_default-broken.is (kept_count (g.S.SeqStore.fault_count c.take_store-home.result.store) (g.S.SeqStore.fault_count c.prepare.new.home.store) c.prepare.result c.in-Ok.sum c.in-Ok.is c.prepare.ensures.cause) c.settle-status.ensures.settled c.give_store.ensures.step c.visit-sum.ensures.own.breaking (above (its c.args.self.now).frame c.in-Some.part.now.store (stores_of c.in-Some.rest.now) (view c.args.pass.now).caller.held (subst (λ (ps : List Part). Climbs (its c.args.self.now).frame (stores_of ps) (view c.args.pass.now).caller.held) c.in-Some.ensures.cases.0 c.requires.climbs)) (subst (λ (ps : List Part). AllFit (setting g.S.SeqStore.lawful g.S.SeqStore.store_view g.S.SeqStore.fault_count c.args.self.now) c.args.work g.J.Asked.entry (view c.args.pass.now) ps) c.in-Some.ensures.cases.0 c.requires.fit).0 (λ q e less. let le = c.has_risen.ensures.same c.if-has_risen.false q e in let f = c.faults.ensures in absurd (omega arith)) (subst (λ (ps : List Part). Climbs (its c.args.self.now).frame (stores_of ps) (view c.args.pass.now).caller.held) c.in-Some.ensures.cases.0 c.requires.climbs).0 (λ log st tells. room_by g.S.SeqStore.lawful g.S.SeqStore.stands g.S.SeqStore.store_view g.S.SeqStore.constants g.S.SeqStore.fault_count (its c.args.self.now) (writes c.args.self.now) c.in-Some.part.now (view c.args.pass.now) (view_of c.take_store-home.new.pass) c.take_store-home.result (may_visit (its c.args.self.now).frame c.in-Some.part.now.store (stores_of c.in-Some.rest.now) (view c.args.pass.now).caller (subst (λ (ps : List Part). Climbs (its c.args.self.now).frame (stores_of ps) (view c.args.pass.now).caller.held) c.in-Some.ensures.cases.0 c.requires.climbs) c.requires.ask.allowance) c.take_store-home.ensures.step c.args.work g.J.Asked.entry c.prepare.result c.in-Ok.sum c.in-Ok.is c.prepare.ensures.full c.in_default-broken.is (subst (λ (ps : List Part). AllFit (setting g.S.SeqStore.lawful g.S.SeqStore.store_view g.S.SeqStore.fault_count c.args.self.now) c.args.work g.J.Asked.entry (view c.args.pass.now) ps) c.in-Some.ensures.cases.0 c.requires.fit).0 log st tells) in
+returns-in-Ok-clause-sum g t c n is told_each = let z = done g.S.SeqStore.lawful g.S.SeqStore.stands g.S.SeqStore.store_view g.S.SeqStore.constants g.S.SeqStore.fault_count (its c.args.self.now) (writes c.args.self.now) c.in-Some.part.now (view c.args.pass.now) (view_of c.take_store-home.new.pass) c.take_store-home.result c.take_store-home.ensures.step c.args.work (OverBy g.S.SeqStore.stands g.S.SeqStore.store_view g.S.SeqStore.constants (its c.args.self.now) c.args.work) (RoomBy g.S.SeqStore.stands g.S.SeqStore.store_view g.S.SeqStore.constants (its c.args.self.now) c.args.work) g.J.Asked.entry c.in-Some.rest.now c.visit-sum.result.0 (view c.visit-sum.new.pass) c.visit-sum.ensures.visits c.visit-sum.ensures.own.held (apart (its c.args.self.now).frame c.in-Some.part.now.store (stores_of c.in-Some.rest.now) (view c.args.pass.now).caller.held (subst (λ (ps : List Part). Climbs (its c.args.self.now).frame (stores_of ps) (view c.args.pass.now).caller.held) c.in-Some.ensures.cases.0 c.requires.climbs)) c.settle-status.result c.prepare.new.home.store c.settle-status.new.home (view_of c.give_store.new.pass) c.in_default-broken.is (kept_count (g.S.SeqStore.fault_count c.take_store-home.result.store) (g.S.SeqStore.fault_count c.prepare.new.home.store) c.prepare.result c.in-Ok.sum c.in-Ok.is c.prepare.ensures.cause) c.settle-status.ensures.settled c.give_store.ensures.step c.visit-sum.ensures.own.breaking (above (its c.args.self.now).frame c.in-Some.part.now.store (stores_of c.in-Some.rest.now) (view c.args.pass.now).caller.held (subst (λ (ps : List Part). Climbs (its c.args.self.now).frame (stores_of ps) (view c.args.pass.now).caller.held) c.in-Some.ensures.cases.0 c.requires.climbs)) (subst (λ (ps : List Part). AllFit (setting g.S.SeqStore.lawful g.S.SeqStore.store_view g.S.SeqStore.fault_count c.args.self.now) c.args.work g.J.Asked.entry (view c.args.pass.now) ps) c.in-Some.ensures.cases.0 c.requires.fit).0 (λ q e less. let le = c.has_risen.ensures.same c.if-has_risen.false q e in let f = c.faults.ensures in absurd (omega arith)) (subst (λ (ps : List Part). Climbs (its c.args.self.now).frame (stores_of ps) (view c.args.pass.now).caller.held) c.in-Some.ensures.cases.0 c.requires.climbs).0 (λ log st tells. room_by g.S.SeqStore.lawful g.S.SeqStore.stands g.S.SeqStore.store_view g.S.SeqStore.constants g.S.SeqStore.fault_count (its c.args.self.now) (writes c.args.self.now) c.in-Some.part.now (view c.args.pass.now) (view_of c.take_store-home.new.pass) c.take_store-home.result (may_visit (its c.args.self.now).frame c.in-Some.part.now.store (stores_of c.in-Some.rest.now) (view c.args.pass.now).caller (subst (λ (ps : List Part). Climbs (its c.args.self.now).frame (stores_of ps) (view c.args.pass.now).caller.held) c.in-Some.ensures.cases.0 c.requires.climbs) c.requires.ask.allowance) c.take_store-home.ensures.step c.args.work g.J.Asked.entry c.prepare.result c.in-Ok.sum c.in-Ok.is (subst (λ (w : Work). TellsFullBy w (g.S.SeqStore.constants c.take_store-home.result.store) (g.S.SeqStore.store_view c.take_store-home.result.store) c.in-Some.part.now.changes c.prepare.result) c.work_in-here.ensures c.prepare.ensures.full) c.in_default-broken.is (subst (λ (ps : List Part). AllFit (setting g.S.SeqStore.lawful g.S.SeqStore.store_view g.S.SeqStore.fault_count c.args.self.now) c.args.work g.J.Asked.entry (view c.args.pass.now) ps) c.in-Some.ensures.cases.0 c.requires.fit).0 log st tells) in
     let told_all : (i : ℕ) → has i (stores_of (c.in-Some.part.now ∷ c.in-Some.rest.now)) ≡ true → (setting g.S.SeqStore.lawful g.S.SeqStore.store_view g.S.SeqStore.fault_count c.args.self.now).tells i ≡ true = subst (λ (ps : List Part). (i : ℕ) → has i (stores_of ps) ≡ true → (setting g.S.SeqStore.lawful g.S.SeqStore.store_view g.S.SeqStore.fault_count c.args.self.now).tells i ≡ true) c.in-Some.ensures.cases.0 told_each in
-    let mine = c.in-Ok.ensures.sum (told_all c.in-Some.part.now.store (has_head c.in-Some.part.now.store (stores_of c.in-Some.rest.now))) in
+    let mine = sum_at c.args.work c.in-Some.part.now.changes c.args.sum _ c.in-Ok.sum (subst (λ (w : Work). IsSum w c.args.sum (length (shard_records (shard (its c.args.self.now).frame c.in-Some.part.now.store) (map_after (its c.args.self.now).frame (setting g.S.SeqStore.lawful g.S.SeqStore.store_view g.S.SeqStore.fault_count c.args.self.now).first (view_of c.take_store-home.new.pass).caller.base))) c.in-Ok.sum) c.work_in-here.ensures (c.in-Ok.ensures.sum (told_all c.in-Some.part.now.store (has_head c.in-Some.part.now.store (stores_of c.in-Some.rest.now))))) in
     let rest = c.visit-sum.ensures.sum n is (λ i h. told_all i (has_tail i c.in-Some.part.now.store (stores_of c.in-Some.rest.now) h)) in
     let same = same_shard g.S.SeqStore.lawful g.S.SeqStore.stands g.S.SeqStore.store_view g.S.SeqStore.constants g.S.SeqStore.fault_count (its c.args.self.now) (writes c.args.self.now) c.in-Some.part.now (view c.args.pass.now) (view_of c.take_store-home.new.pass) c.take_store-home.result (may_visit (its c.args.self.now).frame c.in-Some.part.now.store (stores_of c.in-Some.rest.now) (view c.args.pass.now).caller (subst (λ (ps : List Part). Climbs (its c.args.self.now).frame (stores_of ps) (view c.args.pass.now).caller.held) c.in-Some.ensures.cases.0 c.requires.climbs) c.requires.ask.allowance) c.take_store-home.ensures.step (take n (view c.visit-sum.new.pass).caller.seen) (c.visit-sum.ensures.visits.made n is).1 c.requires.own.fresh.rising in
     subst (λ (ps : List Part). IsSum c.args.work c.args.sum (count_in (its c.args.self.now).frame (records_at (setting g.S.SeqStore.lawful g.S.SeqStore.store_view g.S.SeqStore.fault_count c.args.self.now) (view_of c.give_store.new.pass).caller n) (stores_of ps)) c.visit-sum.result.1) (sym c.in-Some.ensures.cases.0)

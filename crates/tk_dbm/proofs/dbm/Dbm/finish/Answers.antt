@@ -1,10 +1,10 @@
-use Rattle.std.proofs.Common.{refl, ap, ◌∙◌, subst}
+use Rattle.std.proofs.Common.{◌≡◌, ⊎_elim, refl, ap, ◌∙◌, subst}
 use Rattle.tk_dbm.specs.declared.visit.Work.{Work}
-use Rattle.tk_dbm.specs.declared.visit.Work.TheVariants.{Sync}
+use Rattle.tk_dbm.specs.declared.visit.Work.TheVariants.{Count, Sync, Keep}
 use Rattle.tk_dbm.specs.Dbm.{its, view}
 use Rattle.tk_dbm.specs.Visiting.{IsDue, MarksSuit}
 use Rattle.tk_dbm.proofs.Goods.{whole, unclosed}
-use Rattle.tk_dbm.proofs.Finishing.{counted_out, synced_out, hardened_out}
+use Rattle.tk_dbm.proofs.Finishing.{counted_out, kept_out, synced_out, hardened_out}
 use Rattle.tk_dbm.proofs.dbm.Dbm.finish.Goals as goal
 
 pub sync_hard-requires-clause-whole : goal.sync_hard-requires-clause-whole
@@ -20,8 +20,11 @@ pub sync-requires-clause-open : goal.sync-requires-clause-open
 sync-requires-clause-open g c = unclosed g.S.SeqStore.lawful g.S.SeqStore.stands g.S.SeqStore.store_view g.S.SeqStore.constants (its c.args.self.now) c.requires.fresh c.args.i c.requires.due.low c.args.home.now.store _ _ c.requires.due.good_then
 
 pub returns-in-Count-clause-out : goal.returns-in-Count-clause-out
-returns-in-Count-clause-out g c = counted_out g.S.SeqStore.lawful g.S.SeqStore.stands g.S.SeqStore.store_view g.S.SeqStore.constants g.S.SeqStore.fault_count (its c.args.self.now) c.requires.fresh c.args.i g.S.SeqStore.reserved c.args.number (view c.args.pass.now) c.args.home.now.store c.args.home.now.broken c.requires.whole
-    (subst (λ (w : Work). IsDue g.S.SeqStore.lawful g.S.SeqStore.stands g.S.SeqStore.store_view g.S.SeqStore.constants g.S.SeqStore.fault_count (its c.args.self.now) g.S.SeqStore.reserved w c.args.i c.args.number (view c.args.pass.now) c.args.home.now.store) c.in-Count.is c.requires.due)
+returns-in-Count-clause-out g c = ⊎_elim
+    (λ (e : c.args.work ≡ Count). counted_out g.S.SeqStore.lawful g.S.SeqStore.stands g.S.SeqStore.store_view g.S.SeqStore.constants g.S.SeqStore.fault_count (its c.args.self.now) c.requires.fresh c.args.i g.S.SeqStore.reserved c.args.number (view c.args.pass.now) c.args.home.now.store c.args.home.now.broken c.requires.whole
+    (subst (λ (w : Work). IsDue g.S.SeqStore.lawful g.S.SeqStore.stands g.S.SeqStore.store_view g.S.SeqStore.constants g.S.SeqStore.fault_count (its c.args.self.now) g.S.SeqStore.reserved w c.args.i c.args.number (view c.args.pass.now) c.args.home.now.store) e c.requires.due))
+    (λ (e : c.args.work ≡ Keep). kept_out g.S.SeqStore.lawful g.S.SeqStore.stands g.S.SeqStore.store_view g.S.SeqStore.constants g.S.SeqStore.fault_count (its c.args.self.now) c.requires.fresh c.args.i g.S.SeqStore.reserved c.args.number (view c.args.pass.now) c.args.home.now.store c.args.home.now.broken c.requires.whole
+    (subst (λ (w : Work). IsDue g.S.SeqStore.lawful g.S.SeqStore.stands g.S.SeqStore.store_view g.S.SeqStore.constants g.S.SeqStore.fault_count (its c.args.self.now) g.S.SeqStore.reserved w c.args.i c.args.number (view c.args.pass.now) c.args.home.now.store) e c.requires.due)) c.in-Count.is
 
 pub returns-in-Sync-false-clause-out : goal.returns-in-Sync-false-clause-out
 returns-in-Sync-false-clause-out g c = synced_out g.S.SeqStore.lawful g.S.SeqStore.stands g.S.SeqStore.store_view g.S.SeqStore.constants g.S.SeqStore.fault_count (its c.args.self.now) c.requires.fresh c.args.i g.S.SeqStore.reserved c.args.number (view c.args.pass.now) c.args.home.now.store c.sync.new.self c.args.home.now.broken c.requires.whole
